@@ -1,0 +1,3 @@
+pub mod Whites
+pub mod Checks
+pub mod Coder

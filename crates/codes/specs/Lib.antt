@@ -1,0 +1,4 @@
+pub mod Crc
+pub mod Whitening
+pub mod Interleaving
+pub mod Convolution

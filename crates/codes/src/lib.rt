@@ -1,0 +1,5 @@
+//! The codes that a frame is made of, save the Golay code.
+pub mod convolution;
+pub mod crc;
+pub mod interleave;
+pub mod whitening;
