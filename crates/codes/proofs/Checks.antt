@@ -2,6 +2,7 @@
 use mathlib.Core.Path.{_≡_, refl, sym, ap, _∙_}
 use mathlib.Core.List.{List, [], _∷_, _++_}
 use Prim.Native.Nat.{ℕ, zero, suc, _+_, _-_, _%_, _/_, _^_, _<_}
+use native.Mathlib.Nat.{mod-lt}
 use native.Mathlib.Omega.{arith}
 use lib.Bits.{bitXor, xor-lt}
 use lib.ListN.{length, getD, drop, replicate}
@@ -37,6 +38,16 @@ fed-byte g s s′ all bytes i h e inv =
     let rest = byte-bits (drop (i + 1) bytes) in
     let b = bits-of 8 (getD bytes i 0) in
     ap (λ t. fed g t rest) e ∙ sym (fed-append g s b rest) ∙ sym (at-drop-more (λ l. fed g s (byte-bits l)) bytes i 0 h) ∙ inv
+
+pub length-inverted : (bs : List ℕ) → length (inverted bs) ≡ length bs
+unfolding inverted
+length-inverted [] = refl
+length-inverted (b ∷ bs) = ap suc (length-inverted bs)
+
+pub bits-inverted : (bs : List ℕ) → Bits (inverted bs)
+unfolding inverted
+bits-inverted [] = tt
+bits-inverted (b ∷ bs) = (mod-lt (b + 1) (omega arith), bits-inverted bs)
 
 plus-ones : (bs : List ℕ) → plus bs (replicate (length bs) 1) ≡ inverted bs
 unfolding plus inverted

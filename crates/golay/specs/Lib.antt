@@ -1,0 +1,3 @@
+pub mod Golay
+pub mod Nearest
+pub mod Values
