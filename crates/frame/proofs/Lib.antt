@@ -1,3 +1,5 @@
 pub mod Laying
 pub mod Turns
 pub mod Words
+pub mod Standing
+pub mod Known

@@ -78,4 +78,4 @@ pub record Header-of (f : Fich) (message : List ℕ) (frame : List ℕ) : Type 0
 
 -- every message makes such a frame
 abbrev pub Laid-out : Type 0
-Laid-out = (f : Fich) (message : List ℕ) → length message ≡ 320 → Header-of f message (header-frame f message)
+Laid-out = (f : Fich) (message : List ℕ) → Header-of f message (header-frame f message)

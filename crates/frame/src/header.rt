@@ -9,6 +9,7 @@ ghost use Rattle.fields.specs.Settings.{header-fich};
 ghost use Rattle.golay.specs.Golay.{golay};
 ghost use Rattle.frame.specs.Coding.{by-turns};
 ghost use Rattle.frame.specs.Header.{golay-words, fich-inputs, fich-block, unit-block, paired-units, header-frame, header-fault, Laid-out};
+ghost use Rattle.frame.specs.Known.{Known-values};
 use crate::coding::fill_block;
 use crate::coding::fill_unit;
 use codes::crc::crc16;
@@ -102,12 +103,23 @@ fn write_units(part: &mut [u8], message: &[u8])
     }
 }
 
+/// Writes a frame of two units.
+fn write_frame(frame: &mut [u8], message: &[u8], fich: &Fich)
+    requires { ⌜ length (now frame) ≡ 120 ⌝ ∗ ⌜ length (now message) ≡ 320 ⌝ }
+    ensures { λ _. ⌜ now (frame .exit) ≡ header-frame (now (fich .entry)) (now (message .entry)) ⌝ }
+{
+    frame[0..5].copy_from_slice(&SYNC_WORD);
+    write_fich(&mut frame[5..30], fich);
+    write_units(&mut frame[30..120], message);
+}
+
 /// Writes the header frame of a transmission with these settings into `frame`: who calls whom stands in the first
 /// forty bytes of the message.
 pub fn write_header(frame: &mut [u8], message: &[u8], mode: DataType, settings: &Settings) -> Result<(), Fault>
     ensures value { λ r. ⌜ r ≡ refused-or (header-fault (now (settings .entry)) (length (now (frame .entry))) (length (now (message .entry)))) tt ⌝ }
     ensures after { λ _. ⌜ now (frame .exit) ≡ unless (header-fault (now (settings .entry)) (length (now (frame .entry))) (length (now (message .entry)))) (header-frame (header-fich (now (settings .entry)) mode) (now (message .entry))) (now (frame .entry)) ⌝ }
     ensures layout { λ _. ⌜ Laid-out ⌝ }
+    ensures known { λ _. ⌜ Known-values ⌝ }
 {
     let fich = settings.header(mode)?;
     if frame.len() != FRAME_BYTES {
@@ -116,8 +128,6 @@ pub fn write_header(frame: &mut [u8], message: &[u8], mode: DataType, settings: 
     if message.len() != MESSAGE_BYTES {
         return Err(Fault::WrongLength(Buffer::Message));
     }
-    frame[0..5].copy_from_slice(&SYNC_WORD);
-    write_fich(&mut frame[5..30], &fich);
-    write_units(&mut frame[30..120], message);
+    write_frame(frame, message, &fich);
     Ok(())
 }
