@@ -1,5 +1,5 @@
 -- A shift register divides: fed a list of bits it holds the remainder that long division leaves.
-use mathlib.Core.Path.{_≡_, refl, sym, ap, _∙_}
+use mathlib.Core.Path.{_≡_, refl, sym, ap, subst, _∙_}
 use mathlib.Core.Bool.{Bool, true, false, cond, not, Bool·beq}
 use mathlib.Core.List.{List, [], _∷_, _++_, append-assoc, append-nil}
 use Prim.Native.Nat.{ℕ, zero, suc, _+_, _*_, _/_, _%_, _^_, _<_, _≤_}
@@ -58,6 +58,24 @@ remainder-fed g ms some h =
     ap (divided g (length ms)) (sym (plus-zeros (ms ++ replicate w 0) w all))
     ∙ divided-fed g (replicate w 0) ms (length-replicate w 0) some (bits-replicate w) h
 
+length-fed : (g register ms : List ℕ) → length (fed g register ms) ≡ length register
+unfolding fed
+length-fed g register [] = refl
+length-fed g register (b ∷ ms) = length-fed g (shifted g register b) ms ∙ length-shifted g register b
+
+bits-fed : (g register ms : List ℕ) → Bits register → Bits (fed g register ms)
+unfolding fed
+bits-fed g register [] h = h
+bits-fed g register (b ∷ ms) h = bits-fed g (shifted g register b) ms (bits-shifted g register b h)
+
+pub length-remainder : (g ms : List ℕ) → 0 < length g → Bits ms → length (remainder g ms) ≡ length g
+length-remainder g ms some h =
+    ap length (remainder-fed g ms some h) ∙ length-fed g (replicate (length g) 0) ms ∙ length-replicate (length g) 0
+
+pub bits-remainder : (g ms : List ℕ) → 0 < length g → Bits ms → Bits (remainder g ms)
+bits-remainder g ms some h =
+    subst Bits (sym (remainder-fed g ms some h)) (bits-fed g (replicate (length g) 0) ms (bits-replicate (length g)))
+
 -- zeros below the divisor pass through
 divided-low : (g bs : List ℕ) (n j : ℕ) → n + length g ≤ length bs → Bits bs
     → divided (g ++ replicate j 0) n (bs ++ replicate j 0) ≡ divided g n bs ++ replicate j 0
@@ -101,12 +119,13 @@ feeds true false l r = refl
 feeds false true l r = refl
 feeds false false l r = refl
 
-pub shifted-number : (g : List ℕ) (n : ℕ) (b : Bool) → n < 65536
-    → shifted g (bits-of 16 n) (cond b 1 0) ≡ cond (not (Bool·beq (leb 32768 n) b)) (plus (bits-of 16 (n * 2 % 65536)) g) (bits-of 16 (n * 2 % 65536))
-shifted-number g n b h =
+pub shifted-number : (g : List ℕ) (n : ℕ) (top b : Bool) → n < 65536 → top ≡ leb 32768 n
+    → shifted g (bits-of 16 n) (cond b 1 0) ≡ cond (not (Bool·beq top b)) (plus (bits-of 16 (n * 2 % 65536)) g) (bits-of 16 (n * 2 % 65536))
+shifted-number g n top b h e =
     let zs = bits-of 15 n ++ 0 ∷ [] in
     let twice : bits-of 16 (n * 2 % 65536) ≡ zs = bits-of-twice 15 n in
+    let bit : n / 2 ^ 15 % 2 ≡ cond top 1 0 = top-bit n h ∙ ap (λ t. cond t 1 0) (sym e) in
     shifted-top g n (cond b 1 0)
-    ∙ ap (λ x. cond (eqb (x ⊕ cond b 1 0) 0) zs (plus zs g)) (top-bit n h)
-    ∙ feeds (leb 32768 n) b zs (plus zs g)
-    ∙ ap (λ l. cond (not (Bool·beq (leb 32768 n) b)) (plus l g) l) (sym twice)
+    ∙ ap (λ x. cond (eqb (x ⊕ cond b 1 0) 0) zs (plus zs g)) bit
+    ∙ feeds top b zs (plus zs g)
+    ∙ ap (λ l. cond (not (Bool·beq top b)) (plus l g) l) (sym twice)

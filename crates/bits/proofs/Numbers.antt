@@ -1,5 +1,6 @@
 -- A number and its bits: each way and back, cut in two, and one bit of many.
 use mathlib.Core.Path.{_≡_, refl, sym, ap, subst, _∙_}
+use mathlib.Core.Logic.{⊎-elim}
 use mathlib.Core.List.{List, [], _∷_, _++_, append-assoc}
 use Prim.Native.Nat.{ℕ, zero, suc, _+_, _-_, _*_, _/_, _%_, _^_, _<_, _≤_}
 use native.Mathlib.Nat.{add-suc, suc-add, zero-add, add-zero, add-comm, mod-lt, mul-assoc, mul-comm, add-mul, add-assoc, pow-suc, mul-add-div-right, div-eq-of-lt, mod-eq-of-lt}
@@ -11,8 +12,9 @@ use lib.ListN.{length, take, drop, getD, length-append}
 use lib.Pow.{pow-pos, pow-add, shr-shr, split, high, mod-pow-add}
 use lib.Seq.{take-at, drop-at}
 use Rattle.std.proofs.shelf.Bits.{mul-le}
+use Rattle.std.proofs.shelf.Tests.{cases-lt}
 use Rattle.std.proofs.shelf.Lists.{getD-append-left, getD-append-right, getD-past}
-use Rattle.bits.specs.Bits.{Bits, bits-of, number-from, number-of, byte-bits, numbers-of}
+use Rattle.bits.specs.Bits.{Bits, bits-of, number-from, number-of, byte-bits, bit-at, numbers-of}
 
 pub length-bits-of : (k n : ℕ) → length (bits-of k n) ≡ k
 unfolding bits-of
@@ -153,6 +155,28 @@ getD-byte-bits (b ∷ bs) (suc q) r h l =
     getD-append-right (bits-of 8 b) (byte-bits bs) 8 (8 * suc q + r) 0 (length-bits-of 8 b) (omega arith)
     ∙ ap (λ i. getD (byte-bits bs) i 0) (omega arith)
     ∙ getD-byte-bits bs q r h (omega arith)
+
+zero-bit : (k : ℕ) → getD (bits-of 8 0) k 0 ≡ 0
+unfolding bits-of
+zero-bit zero = refl
+zero-bit (suc zero) = refl
+zero-bit (suc (suc zero)) = refl
+zero-bit (suc (suc (suc zero))) = refl
+zero-bit (suc (suc (suc (suc zero)))) = refl
+zero-bit (suc (suc (suc (suc (suc zero))))) = refl
+zero-bit (suc (suc (suc (suc (suc (suc zero)))))) = refl
+zero-bit (suc (suc (suc (suc (suc (suc (suc zero))))))) = refl
+zero-bit (suc (suc (suc (suc (suc (suc (suc (suc k)))))))) = refl
+
+-- bit i is bit i of all the bits
+pub bit-at-is : (bs : List ℕ) (i : ℕ) → bit-at bs i ≡ getD (byte-bits bs) i 0
+bit-at-is bs i =
+    ⊎-elim
+    (λ l. sym (getD-byte-bits bs (i / 8) (i % 8) (omega arith) l) ∙ ap (λ k. getD (byte-bits bs) k 0) (omega arith))
+    (λ l. ap (λ b. getD (bits-of 8 b) (i % 8) 0) (getD-past bs (i / 8) 0 l)
+        ∙ zero-bit (i % 8)
+        ∙ sym (getD-past (byte-bits bs) i 0 (omega (arith, length-byte-bits bs))))
+    (cases-lt (i / 8) (length bs))
 
 -- ---- groups of bits
 

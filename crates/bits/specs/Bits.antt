@@ -1,7 +1,7 @@
 -- Numbers as bits. A bit is the number 0 or 1, a list of bits stands highest first, and bits add modulo 2.
 use mathlib.Core.List.{List, [], _∷_, _++_}
 use Prim.Native.Nat.{ℕ, zero, suc, _+_, _*_, _/_, _%_, _^_, _<_}
-use lib.ListN.{take, drop}
+use lib.ListN.{getD, take, drop}
 
 infixl 20 _⊕_
 
@@ -31,6 +31,10 @@ number-of bs = number-from 0 bs
 unfoldable pub byte-bits : List ℕ → List ℕ
 byte-bits [] = []
 byte-bits (b ∷ bs) = bits-of 8 b ++ byte-bits bs
+
+-- bit i of a string of bytes: bit i mod 8 of byte i / 8, and 0 past the end
+abbrev pub bit-at : List ℕ → ℕ → ℕ
+bit-at bytes i = getD (bits-of 8 (getD bytes (i / 8) 0)) (i % 8) 0
 
 -- bits in groups of width w, as n numbers
 unfoldable pub numbers-of : ℕ → ℕ → List ℕ → List ℕ

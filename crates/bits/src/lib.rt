@@ -1,8 +1,10 @@
 //! Bits and dibits of byte strings, and the shift register that divides by a polynomial.
 ghost use mathlib.Core.Path.{_≡_};
 ghost use mathlib.Core.Bool.{cond};
+ghost use Prim.Native.Nat.{_<_};
+ghost use lib.Dec.{leb};
 ghost use lib.ListN.{getD};
-ghost use Rattle.bits.specs.Bits.{bits-of, byte-bits};
+ghost use Rattle.bits.specs.Bits.{bits-of, bit-at};
 ghost use Rattle.bits.specs.Dibits.{dibit, value-of};
 ghost use Rattle.bits.specs.Division.{shifted};
 
@@ -41,20 +43,42 @@ impl Dibit {
     }
 }
 
+/// Byte `k` of a string of bytes, and 0 past its end.
+fn byte_at(bytes: &[u8], k: usize) -> u8
+    ensures { λ r. ⌜ r ≡ getD (now (bytes .entry)) k 0 ⌝ }
+{
+    if k < bytes.len() {
+        return bytes[k];
+    }
+    0
+}
+
+/// Bit `k` of a byte, the highest first.
+fn bit_of(byte: u8, k: usize) -> bool
+    requires { ⌜ k < 8 ⌝ }
+    ensures { λ r. ⌜ cond r 1 0 ≡ getD (bits-of 8 byte) k 0 ⌝ }
+{
+    (byte >> (7 - k)) % 2 == 1
+}
+
 /// Bit `i` of a string of bytes, and 0 past its end.
 pub fn bit(bytes: &[u8], i: usize) -> bool
-    ensures { λ r. ⌜ cond r 1 0 ≡ getD (byte-bits (now (bytes .entry))) i 0 ⌝ }
+    ensures { λ r. ⌜ cond r 1 0 ≡ bit-at (now (bytes .entry)) i ⌝ }
 {
-    if i / 8 >= bytes.len() {
-        return false;
-    }
-    (bytes[i / 8] >> (7 - i % 8)) % 2 == 1
+    bit_of(byte_at(bytes, i / 8), i % 8)
+}
+
+/// The register one place up, with the taps added where its top bit and the new bit differ.
+fn fed_back(register: u16, top: bool, bit: bool, taps: u16) -> u16
+    requires { ⌜ top ≡ leb 0x8000 register ⌝ }
+    ensures { λ r. ⌜ bits-of 16 r ≡ shifted (bits-of 16 taps) (bits-of 16 register) (cond bit 1 0) ⌝ }
+{
+    if top != bit { (register << 1) ^ taps } else { register << 1 }
 }
 
 /// A register of sixteen bits that divides by x^16 and the powers in `taps`, one bit on.
 pub fn shift_in(register: u16, bit: bool, taps: u16) -> u16
     ensures { λ r. ⌜ bits-of 16 r ≡ shifted (bits-of 16 taps) (bits-of 16 register) (cond bit 1 0) ⌝ }
 {
-    let feeds = (register >= 0x8000) != bit;
-    if feeds { (register << 1) ^ taps } else { register << 1 }
+    fed_back(register, register >= 0x8000, bit, taps)
 }

@@ -12,7 +12,7 @@ use Rattle.bits.specs.Division.{remainder, shifted, fed}
 use Rattle.bits.proofs.Numbers.{length-bits-of, bits-byte-bits, number-bits}
 use Rattle.bits.proofs.Sums.{bits-of-xor}
 use Rattle.bits.proofs.Divides.{remainder-fed}
-use Rattle.codes.specs.Crc.{crc-generator, inverted, check-bits, crc}
+use Rattle.codes.specs.Crc.{crc-generator, all-inverted, check-bits, crc}
 
 pub fed-append : (g register xs ys : List ℕ) → fed g register (xs ++ ys) ≡ fed g (fed g register xs) ys
 unfolding fed
@@ -39,18 +39,18 @@ fed-byte g s s′ all bytes i h e inv =
     let b = bits-of 8 (getD bytes i 0) in
     ap (λ t. fed g t rest) e ∙ sym (fed-append g s b rest) ∙ sym (at-drop-more (λ l. fed g s (byte-bits l)) bytes i 0 h) ∙ inv
 
-pub length-inverted : (bs : List ℕ) → length (inverted bs) ≡ length bs
-unfolding inverted
-length-inverted [] = refl
-length-inverted (b ∷ bs) = ap suc (length-inverted bs)
+pub length-all-inverted : (bs : List ℕ) → length (all-inverted bs) ≡ length bs
+unfolding all-inverted
+length-all-inverted [] = refl
+length-all-inverted (b ∷ bs) = ap suc (length-all-inverted bs)
 
-pub bits-inverted : (bs : List ℕ) → Bits (inverted bs)
-unfolding inverted
-bits-inverted [] = tt
-bits-inverted (b ∷ bs) = (mod-lt (b + 1) (omega arith), bits-inverted bs)
+pub bits-all-inverted : (bs : List ℕ) → Bits (all-inverted bs)
+unfolding all-inverted
+bits-all-inverted [] = tt
+bits-all-inverted (b ∷ bs) = (mod-lt (b + 1) (omega arith), bits-all-inverted bs)
 
-plus-ones : (bs : List ℕ) → plus bs (replicate (length bs) 1) ≡ inverted bs
-unfolding plus inverted
+plus-ones : (bs : List ℕ) → plus bs (replicate (length bs) 1) ≡ all-inverted bs
+unfolding plus all-inverted
 plus-ones [] = refl
 plus-ones (b ∷ bs) = ap (λ l. (b ⊕ 1) ∷ l) (plus-ones bs)
 
@@ -62,7 +62,7 @@ zero-bits : bits-of 16 0 ≡ replicate 16 0
 unfolding bits-of
 zero-bits = refl
 
-inverted-number : (n : ℕ) → n < 65536 → bitXor n 65535 ≡ number-of (inverted (bits-of 16 n))
+pub inverted-number : (n : ℕ) → n < 65536 → bitXor n 65535 ≡ number-of (all-inverted (bits-of 16 n))
 inverted-number n h =
     let bs = bits-of 16 n in
     sym (number-bits 16 (bitXor n 65535) (xor-lt 16 n 65535 h (omega arith)))
@@ -72,6 +72,3 @@ pub crc-start : (bytes : List ℕ) → fed crc-generator (bits-of 16 0) (byte-bi
 crc-start bytes =
     ap (λ s. fed crc-generator s (byte-bits bytes)) zero-bits
     ∙ sym (remainder-fed crc-generator (byte-bits bytes) (omega arith) (bits-byte-bits bytes))
-
-pub crc-end : (bytes : List ℕ) (n : ℕ) → n < 65536 → bits-of 16 n ≡ remainder crc-generator (byte-bits bytes) → bitXor n 65535 ≡ crc bytes
-crc-end bytes n h e = inverted-number n h ∙ ap (λ l. number-of (inverted l)) e

@@ -10,15 +10,27 @@ use lib.ListN.{length, getD, length-append}
 use Rattle.std.proofs.shelf.Lists.{getD-append-left, getD-append-right, getD-past}
 use Rattle.std.proofs.shelf.Tests.{cases-lt, cases-order, cond-true, cond-false, le-leb, lt-leb}
 use Rattle.bits.specs.Bits.{_⊕_}
-use Rattle.bits.specs.declared.Dibit.{Dibit}
+use Rattle.bits.specs.Dibits.{dibit}
 use Rattle.bits.specs.declared.Dibit.the-variants.{D00}
-use Rattle.codes.specs.Convolution.{symbol, coded-after, coded}
+use Rattle.codes.specs.Convolution.{symbol, coded-after, coded, input-before, symbol-at}
 
-pub xor-bit : (a b : Bool) → cond (not (Bool·beq a b)) 1 0 ≡ cond a 1 0 ⊕ cond b 1 0
+xor-bit : (a b : Bool) → cond (not (Bool·beq a b)) 1 0 ≡ cond a 1 0 ⊕ cond b 1 0
 xor-bit true true = refl
 xor-bit true false = refl
 xor-bit false true = refl
 xor-bit false false = refl
+
+-- the taps on bits as truth values
+pub tapped-bits : (u u1 u2 u3 u4 : Bool)
+    → dibit (cond (not (Bool·beq (not (Bool·beq u u3)) u4)) 1 0) (cond (not (Bool·beq (not (Bool·beq (not (Bool·beq u u1)) u2)) u4)) 1 0)
+      ≡ symbol (cond u 1 0) (cond u1 1 0) (cond u2 1 0) (cond u3 1 0) (cond u4 1 0)
+tapped-bits u u1 u2 u3 u4 =
+    let a = xor-bit u u3 in
+    let first = xor-bit (not (Bool·beq u u3)) u4 in
+    let b = xor-bit u u1 in
+    let d = xor-bit (not (Bool·beq u u1)) u2 in
+    let second = xor-bit (not (Bool·beq (not (Bool·beq u u1)) u2)) u4 in
+    cc
 
 pub length-coded-after : (past us : List ℕ) → length (coded-after past us) ≡ length us
 unfolding coded-after
@@ -80,21 +92,18 @@ getD-with-rest us j =
     (λ l. getD-append-right us rest (length us) j 0 refl l ∙ getD-rest (j - length us) ∙ sym (getD-past us j 0 l))
     (cases-lt j (length us))
 
--- the input k steps before input i of a word, and 0 before its start
-abbrev pub earlier-input : List ℕ → ℕ → ℕ → ℕ
-earlier-input us i k = cond (leb k i) (getD us (i - k) 0) 0
-
-abbrev pub symbol-at : List ℕ → ℕ → Dibit
-symbol-at us i = symbol (getD us i 0) (earlier-input us i 1) (earlier-input us i 2) (earlier-input us i 3) (earlier-input us i 4)
-
-nothing-before : (us : List ℕ) (i k : ℕ) → before [] (us ++ rest) i k ≡ earlier-input us i k
+nothing-before : (us : List ℕ) (i k : ℕ) → before [] (us ++ rest) i k ≡ input-before us i k
 nothing-before us i k = ap (λ x. cond (leb k i) x 0) (getD-with-rest us (i - k))
 
-pub symbol-same : (u v u1 v1 u2 v2 u3 v3 u4 v4 : ℕ) → u ≡ v → u1 ≡ v1 → u2 ≡ v2 → u3 ≡ v3 → u4 ≡ v4 → symbol u u1 u2 u3 u4 ≡ symbol v v1 v2 v3 v4
+symbol-same : (u v u1 v1 u2 v2 u3 v3 u4 v4 : ℕ) → u ≡ v → u1 ≡ v1 → u2 ≡ v2 → u3 ≡ v3 → u4 ≡ v4 → symbol u u1 u2 u3 u4 ≡ symbol v v1 v2 v3 v4
 symbol-same u v u1 v1 u2 v2 u3 v3 u4 v4 e e1 e2 e3 e4 = cc
 
-past-end : (us : List ℕ) (i k : ℕ) → length us + k ≤ i → earlier-input us i k ≡ 0
+past-end : (us : List ℕ) (i k : ℕ) → length us + k ≤ i → input-before us i k ≡ 0
 past-end us i k h = cond-true (leb k i) _ _ (le-leb k i (omega arith)) ∙ getD-past us (i - k) 0 (omega arith)
+
+-- the input itself
+input-here : (us : List ℕ) (i : ℕ) → input-before us i 0 ≡ getD us i 0
+input-here us i = cond-true (leb 0 i) _ _ (le-leb 0 i (omega arith)) ∙ ap (λ k. getD us k 0) (omega arith)
 
 pub coded-at : (us : List ℕ) (i : ℕ) → getD (coded us) i D00 ≡ symbol-at us i
 coded-at us i =
@@ -102,7 +111,7 @@ coded-at us i =
     let size = length-coded-after [] (us ++ rest) in
     ⊎-elim
     (λ l. getD-coded-after [] (us ++ rest) i l
-        ∙ symbol-same _ _ _ _ _ _ _ _ _ _ (getD-with-rest us i) (nothing-before us i 1) (nothing-before us i 2) (nothing-before us i 3) (nothing-before us i 4))
+        ∙ symbol-same _ _ _ _ _ _ _ _ _ _ (getD-with-rest us i ∙ sym (input-here us i)) (nothing-before us i 1) (nothing-before us i 2) (nothing-before us i 3) (nothing-before us i 4))
     (λ l. getD-past (coded us) i D00 (omega arith)
-        ∙ sym (symbol-same _ 0 _ 0 _ 0 _ 0 _ 0 (getD-past us i 0 (omega arith)) (past-end us i 1 (omega arith)) (past-end us i 2 (omega arith)) (past-end us i 3 (omega arith)) (past-end us i 4 (omega arith))))
+        ∙ sym (symbol-same _ 0 _ 0 _ 0 _ 0 _ 0 (past-end us i 0 (omega arith)) (past-end us i 1 (omega arith)) (past-end us i 2 (omega arith)) (past-end us i 3 (omega arith)) (past-end us i 4 (omega arith))))
     (cases-lt i (length (us ++ rest)))

@@ -1,6 +1,8 @@
 -- The convolutional coder of rate 1/2 and constraint length 5.
+use mathlib.Core.Bool.{cond}
 use mathlib.Core.List.{List, [], _∷_, _++_}
-use Prim.Native.Nat.{ℕ}
+use Prim.Native.Nat.{ℕ, _-_}
+use lib.Dec.{leb}
 use lib.ListN.{getD}
 use Rattle.bits.specs.Bits.{_⊕_}
 use Rattle.bits.specs.Dibits.{dibit}
@@ -19,3 +21,11 @@ coded-after past (u ∷ us) =
 -- the dibits of a word: its free inputs, and four 0s that bring the coder back to rest
 abbrev pub coded : List ℕ → List Dibit
 coded inputs = coded-after [] (inputs ++ 0 ∷ 0 ∷ 0 ∷ 0 ∷ [])
+
+-- the input k steps before input i, and 0 before the start
+abbrev pub input-before : List ℕ → ℕ → ℕ → ℕ
+input-before us i k = cond (leb k i) (getD us (i - k) 0) 0
+
+-- the dibit of input i
+abbrev pub symbol-at : List ℕ → ℕ → Dibit
+symbol-at us i = symbol (input-before us i 0) (input-before us i 1) (input-before us i 2) (input-before us i 3) (input-before us i 4)

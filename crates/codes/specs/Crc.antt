@@ -8,13 +8,13 @@ use Rattle.bits.specs.Division.{remainder}
 abbrev pub crc-generator : List ℕ
 crc-generator = 0 ∷ 0 ∷ 0 ∷ 1 ∷ 0 ∷ 0 ∷ 0 ∷ 0 ∷ 0 ∷ 0 ∷ 1 ∷ 0 ∷ 0 ∷ 0 ∷ 0 ∷ 1 ∷ []
 
-unfoldable pub inverted : List ℕ → List ℕ
-inverted [] = []
-inverted (b ∷ bs) = (b ⊕ 1) ∷ inverted bs
+unfoldable pub all-inverted : List ℕ → List ℕ
+all-inverted [] = []
+all-inverted (b ∷ bs) = (b ⊕ 1) ∷ all-inverted bs
 
 -- the sixteen check bits of a list of bits
 abbrev pub check-bits : List ℕ → List ℕ
-check-bits bs = inverted (remainder crc-generator bs)
+check-bits bs = all-inverted (remainder crc-generator bs)
 
 abbrev pub crc : List ℕ → ℕ
 crc bytes = number-of (check-bits (byte-bits bytes))

@@ -28,14 +28,22 @@ fn eight_on(register: u16) -> u16
     further_on
 }
 
+fn add_from(start: u16, bytes: &mut [u8])
+    requires { ⌜ start ≡ 0x127 ⌝ }
+    ensures value { λ _. ⌜ now (bytes .exit) ≡ whitened (now (bytes .entry)) ⌝ }
+    ensures rule { λ _. ⌜ Recurs (whitening (8 * length (now (bytes .entry)))) ⌝ }
+{
+    let mut register = start;
+    for byte in bytes.iter_mut() {
+        *byte ^= (register / 2) as u8;
+        register = eight_on(register);
+    }
+}
+
 /// Adds the whitening to bytes, from its start on. A second time takes it off again.
 pub fn whiten(bytes: &mut [u8])
     ensures value { λ _. ⌜ now (bytes .exit) ≡ whitened (now (bytes .entry)) ⌝ }
     ensures rule { λ _. ⌜ Recurs (whitening (8 * length (now (bytes .entry)))) ⌝ }
 {
-    let mut register = START;
-    for byte in bytes.iter_mut() {
-        *byte ^= (register / 2) as u8;
-        register = eight_on(register);
-    }
+    add_from(START, bytes);
 }

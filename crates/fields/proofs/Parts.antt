@@ -4,7 +4,6 @@ use mathlib.Core.Bool.{Bool, true, false}
 use mathlib.Core.List.{List, [], _∷_, _++_, append-nil}
 use Prim.Native.Nat.{ℕ, _+_, _*_, _%_, _^_, _<_}
 use native.Mathlib.Omega.{arith}
-use mir.Val.{boolByte}
 use Rattle.bits.specs.Bits.{bits-of, byte-bits, numbers-of}
 use Rattle.bits.proofs.Numbers.{bits-of-cat, bits-of-mod, numbers-of-byte-bits}
 use Rattle.fields.specs.declared.fich.CallMode.{CallMode}
@@ -14,9 +13,10 @@ use Rattle.fields.specs.declared.fich.Routing.the-variants.{Direct, DownlinkFr
 use Rattle.fields.specs.declared.fich.DataType.{DataType}
 use Rattle.fields.specs.declared.fich.DataType.the-variants.{VdType1, DataFr, VdType2, VoiceFr}
 use Rattle.fields.specs.declared.fich.Fich.{Fich}
-use Rattle.fields.specs.Fields.{call-value, routing-value, type-value, flag, signalling-bits, squelch-bits}
+use Rattle.fields.specs.Fields.{kind-value, call-value, routing-value, type-value, flag-value, addressing-bits, counting-bits, signalling-bits, squelch-bits}
+use Rattle.fields.specs.Numbers.{addressing-number, counting-number, signalling-number, squelch-number}
 
-pub call-below : (m : CallMode) → call-value m < 4
+call-below : (m : CallMode) → call-value m < 4
 call-below Group = omega arith
 call-below RadioId = omega arith
 call-below Individual = omega arith
@@ -32,13 +32,9 @@ type-below DataFr = omega arith
 type-below VdType2 = omega arith
 type-below VoiceFr = omega arith
 
-flag-below : (b : Bool) → flag b < 2
+flag-below : (b : Bool) → flag-value b < 2
 flag-below true = omega arith
 flag-below false = omega arith
-
-flag-byte : (b : Bool) → boolByte b ≡ flag b
-flag-byte true = refl
-flag-byte false = refl
 
 -- a field of j bits above k others
 above : (j k a r : ℕ) (rest : List ℕ) → r < 2 ^ k → bits-of k r ≡ rest → bits-of (j + k) (a * 2 ^ k + r) ≡ bits-of j a ++ rest
@@ -48,43 +44,38 @@ above j k a r rest h e = bits-of-cat j k a r h ∙ ap (λ l. bits-of j a ++ l) e
 cut-above : (j k a r : ℕ) (rest : List ℕ) → r < 2 ^ k → bits-of k r ≡ rest → bits-of (j + k) (a % 2 ^ j * 2 ^ k + r) ≡ bits-of j a ++ rest
 cut-above j k a r rest h e = above j k (a % 2 ^ j) r rest h e ∙ ap (λ l. l ++ rest) (bits-of-mod j a)
 
-pub counting-byte : (bt fn ft : ℕ) → bits-of 8 (bt % 4 * 64 + fn % 8 * 8 + ft % 8) ≡ bits-of 2 bt ++ (bits-of 3 fn ++ bits-of 3 ft)
-counting-byte bt fn ft =
+pub counting-byte : (f : Fich) → bits-of 8 (counting-number f) ≡ counting-bits f
+counting-byte f =
     ap (bits-of 8) (omega arith)
-    ∙ cut-above 2 6 bt (fn % 8 * 8 + ft % 8) _ (omega arith) (cut-above 3 3 fn (ft % 8) _ (omega arith) (bits-of-mod 3 ft))
+    ∙ cut-above 2 6 (f .«block_total») (f .«frame_number» % 8 * 8 + f .«frame_total» % 8) _ (omega arith)
+      (cut-above 3 3 (f .«frame_number») (f .«frame_total» % 8) _ (omega arith) (bits-of-mod 3 (f .«frame_total»)))
 
-pub squelch-byte : (f : Fich) (sql : ℕ) → sql ≡ boolByte (f .«squelch_off») → bits-of 8 (sql * 128 + f .«squelch_code» % 128) ≡ squelch-bits f
-squelch-byte f sql e =
-    above 1 7 sql (f .«squelch_code» % 128) _ (omega arith) (bits-of-mod 7 (f .«squelch_code»))
-    ∙ ap (λ x. bits-of 1 x ++ bits-of 7 (f .«squelch_code»)) (e ∙ flag-byte (f .«squelch_off»))
+pub squelch-byte : (f : Fich) → bits-of 8 (squelch-number f) ≡ squelch-bits f
+squelch-byte f = above 1 7 (flag-value (f .«squelch_off»)) (f .«squelch_code» % 128) _ (omega arith) (bits-of-mod 7 (f .«squelch_code»))
 
-pub addressing-byte : (fi cm bn : ℕ) → cm < 4 → bits-of 8 (fi * 64 + 32 + cm * 4 + bn % 4) ≡ bits-of 2 fi ++ (bits-of 2 2 ++ (bits-of 2 cm ++ bits-of 2 bn))
-addressing-byte fi cm bn h =
+pub addressing-byte : (f : Fich) → bits-of 8 (addressing-number f) ≡ addressing-bits f
+addressing-byte f =
+    let cm = call-value (f .«call_mode») in
+    let bn = f .«block_number» in
+    let h = call-below (f .«call_mode») in
     ap (bits-of 8) (omega arith)
-    ∙ above 2 6 fi (2 * 2 ^ 4 + (cm * 2 ^ 2 + bn % 4)) _ (omega arith)
+    ∙ above 2 6 (kind-value (f .kind)) (2 * 2 ^ 4 + (cm * 2 ^ 2 + bn % 4)) _ (omega arith)
       (above 2 4 2 (cm * 2 ^ 2 + bn % 4) _ (omega arith) (above 2 2 cm (bn % 4) _ (omega arith) (bits-of-mod 2 bn)))
 
-signalling-fields : (rsv dev mr voip dt : ℕ) → dev < 2 → mr < 8 → voip < 2 → dt < 4
-    → bits-of 8 (rsv * 128 + dev * 64 + voip * 4 + mr * 8 + dt) ≡ bits-of 1 rsv ++ (bits-of 1 dev ++ (bits-of 3 mr ++ (bits-of 1 voip ++ bits-of 2 dt)))
-signalling-fields rsv dev mr voip dt hd hm hv ht =
+pub signalling-byte : (f : Fich) → bits-of 8 (signalling-number f) ≡ signalling-bits f
+signalling-byte f =
+    let dev = flag-value (f .narrow) in
+    let mr = routing-value (f .routing) in
+    let voip = flag-value (f .voip) in
+    let dt = type-value (f .«data_type») in
+    let hd = flag-below (f .narrow) in
+    let hm = routing-below (f .routing) in
+    let hv = flag-below (f .voip) in
+    let ht = type-below (f .«data_type») in
     ap (bits-of 8) (omega arith)
-    ∙ above 1 7 rsv (dev * 2 ^ 6 + (mr * 2 ^ 3 + (voip * 2 ^ 2 + dt))) _ (omega arith)
+    ∙ above 1 7 (flag-value (f .reserved)) (dev * 2 ^ 6 + (mr * 2 ^ 3 + (voip * 2 ^ 2 + dt))) _ (omega arith)
       (above 1 6 dev (mr * 2 ^ 3 + (voip * 2 ^ 2 + dt)) _ (omega arith)
         (above 3 3 mr (voip * 2 ^ 2 + dt) _ (omega arith) (above 1 2 voip dt _ (omega arith) refl)))
-
-pub signalling-byte : (f : Fich) (rsv dev voip mr dt : ℕ) → rsv ≡ boolByte (f .reserved) → dev ≡ boolByte (f .narrow) → voip ≡ boolByte (f .voip)
-    → mr ≡ routing-value (f .routing) → dt ≡ type-value (f .«data_type»)
-    → bits-of 8 (rsv * 128 + dev * 64 + voip * 4 + mr * 8 + dt) ≡ signalling-bits f
-signalling-byte f rsv dev voip mr dt er ed ev em et =
-    let r : rsv ≡ flag (f .reserved) = er ∙ flag-byte (f .reserved) in
-    let d : dev ≡ flag (f .narrow) = ed ∙ flag-byte (f .narrow) in
-    let v : voip ≡ flag (f .voip) = ev ∙ flag-byte (f .voip) in
-    signalling-fields rsv dev mr voip dt (omega (arith, flag-below (f .narrow))) (omega (arith, routing-below (f .routing))) (omega (arith, flag-below (f .voip))) (omega (arith, type-below (f .«data_type»)))
-    ∙ ap (λ x. bits-of 1 x ++ (bits-of 1 dev ++ (bits-of 3 mr ++ (bits-of 1 voip ++ bits-of 2 dt)))) r
-    ∙ ap (λ x. bits-of 1 (flag (f .reserved)) ++ (bits-of 1 x ++ (bits-of 3 mr ++ (bits-of 1 voip ++ bits-of 2 dt)))) d
-    ∙ ap (λ x. bits-of 1 (flag (f .reserved)) ++ (bits-of 1 (flag (f .narrow)) ++ (bits-of 3 x ++ (bits-of 1 voip ++ bits-of 2 dt)))) em
-    ∙ ap (λ x. bits-of 1 (flag (f .reserved)) ++ (bits-of 1 (flag (f .narrow)) ++ (bits-of 3 (routing-value (f .routing)) ++ (bits-of 1 x ++ bits-of 2 dt)))) v
-    ∙ ap (λ x. bits-of 1 (flag (f .reserved)) ++ (bits-of 1 (flag (f .narrow)) ++ (bits-of 3 (routing-value (f .routing)) ++ (bits-of 1 (flag (f .voip)) ++ bits-of 2 x)))) et
 
 -- four bytes by their bits
 pub four-bytes : (a b c d : ℕ) (ws bs cs ds : List ℕ) → bits-of 8 a ≡ ws → bits-of 8 b ≡ bs → bits-of 8 c ≡ cs → bits-of 8 d ≡ ds

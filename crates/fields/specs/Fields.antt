@@ -34,8 +34,8 @@ type-value DataFr = 1
 type-value VdType2 = 2
 type-value VoiceFr = 3
 
-abbrev pub flag : Bool → ℕ
-flag b = cond b 1 0
+abbrev pub flag-value : Bool → ℕ
+flag-value b = cond b 1 0
 
 -- FI, CS, CM, BN. CS is always 2: all callsigns are carried.
 abbrev pub addressing-bits : Fich → List ℕ
@@ -48,11 +48,11 @@ counting-bits f = bits-of 2 (f .«block_total») ++ (bits-of 3 (f .«frame_numbe
 -- rsv, Dev, MR, VoIP, DT
 abbrev pub signalling-bits : Fich → List ℕ
 signalling-bits f =
-    bits-of 1 (flag (f .reserved)) ++ (bits-of 1 (flag (f .narrow)) ++ (bits-of 3 (routing-value (f .routing)) ++ (bits-of 1 (flag (f .voip)) ++ bits-of 2 (type-value (f .«data_type»)))))
+    bits-of 1 (flag-value (f .reserved)) ++ (bits-of 1 (flag-value (f .narrow)) ++ (bits-of 3 (routing-value (f .routing)) ++ (bits-of 1 (flag-value (f .voip)) ++ bits-of 2 (type-value (f .«data_type»)))))
 
 -- SQL, SC
 abbrev pub squelch-bits : Fich → List ℕ
-squelch-bits f = bits-of 1 (flag (f .«squelch_off»)) ++ bits-of 7 (f .«squelch_code»)
+squelch-bits f = bits-of 1 (flag-value (f .«squelch_off»)) ++ bits-of 7 (f .«squelch_code»)
 
 abbrev pub fich-bits : Fich → List ℕ
 fich-bits f = addressing-bits f ++ (counting-bits f ++ (signalling-bits f ++ squelch-bits f))

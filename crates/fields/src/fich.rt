@@ -1,7 +1,8 @@
 //! The frame information channel, field by field.
 ghost use mathlib.Core.Path.{_≡_};
-ghost use Rattle.bits.specs.Bits.{bits-of, byte-bits};
-ghost use Rattle.fields.specs.Fields.{kind-value, call-value, routing-value, type-value, addressing-bits, counting-bits, signalling-bits, squelch-bits, fich-bits, fich-bytes};
+ghost use Rattle.bits.specs.Bits.{byte-bits};
+ghost use Rattle.fields.specs.Fields.{kind-value, call-value, routing-value, type-value, flag-value, fich-bits, fich-bytes};
+ghost use Rattle.fields.specs.Numbers.{addressing-number, counting-number, signalling-number, squelch-number};
 
 /// What a frame is for (FI).
 #[derive(Clone, Copy, PartialEq, Eq)]
@@ -66,6 +67,12 @@ pub struct Fich {
     pub squelch_code: u8,
 }
 
+fn flag(set: bool) -> u8
+    ensures { λ r. ⌜ r ≡ flag-value set ⌝ }
+{
+    if set { 1 } else { 0 }
+}
+
 impl FrameKind {
     fn value(self) -> u8
         ensures { λ r. ⌜ r ≡ kind-value self ⌝ }
@@ -117,28 +124,40 @@ impl DataType {
 
 impl Fich {
     fn addressing(&self) -> u8
-        ensures { λ r. ⌜ bits-of 8 r ≡ addressing-bits (now (self .entry)) ⌝ }
+        ensures { λ r. ⌜ r ≡ addressing-number (now (self .entry)) ⌝ }
     {
         self.kind.value() * 64 + 32 + self.call_mode.value() * 4 + self.block_number % 4
     }
 
     fn counting(&self) -> u8
-        ensures { λ r. ⌜ bits-of 8 r ≡ counting-bits (now (self .entry)) ⌝ }
+        ensures { λ r. ⌜ r ≡ counting-number (now (self .entry)) ⌝ }
     {
         self.block_total % 4 * 64 + self.frame_number % 8 * 8 + self.frame_total % 8
     }
 
     fn signalling(&self) -> u8
-        ensures { λ r. ⌜ bits-of 8 r ≡ signalling-bits (now (self .entry)) ⌝ }
+        ensures { λ r. ⌜ r ≡ signalling-number (now (self .entry)) ⌝ }
     {
-        let flags = u8::from(self.reserved) * 128 + u8::from(self.narrow) * 64 + u8::from(self.voip) * 4;
+        let flags = flag(self.reserved) * 128 + flag(self.narrow) * 64 + flag(self.voip) * 4;
         flags + self.routing.value() * 8 + self.data_type.value()
     }
 
     fn squelch(&self) -> u8
-        ensures { λ r. ⌜ bits-of 8 r ≡ squelch-bits (now (self .entry)) ⌝ }
+        ensures { λ r. ⌜ r ≡ squelch-number (now (self .entry)) ⌝ }
     {
-        u8::from(self.squelch_off) * 128 + self.squelch_code % 128
+        flag(self.squelch_off) * 128 + self.squelch_code % 128
+    }
+
+    /// Four bytes that hold the fields.
+    fn joined(&self, addressing: u8, counting: u8, signalling: u8, squelch: u8) -> [u8; 4]
+        requires addressing { ⌜ addressing ≡ addressing-number (now self) ⌝ }
+        requires counting { ⌜ counting ≡ counting-number (now self) ⌝ }
+        requires signalling { ⌜ signalling ≡ signalling-number (now self) ⌝ }
+        requires squelch { ⌜ squelch ≡ squelch-number (now self) ⌝ }
+        ensures value { λ r. ⌜ r ≡ fich-bytes (now (self .entry)) ⌝ }
+        ensures bits { λ r. ⌜ byte-bits r ≡ fich-bits (now (self .entry)) ⌝ }
+    {
+        [addressing, counting, signalling, squelch]
     }
 
     /// The 32 bits, highest first.
@@ -146,6 +165,6 @@ impl Fich {
         ensures value { λ r. ⌜ r ≡ fich-bytes (now (self .entry)) ⌝ }
         ensures bits { λ r. ⌜ byte-bits r ≡ fich-bits (now (self .entry)) ⌝ }
     {
-        [self.addressing(), self.counting(), self.signalling(), self.squelch()]
+        self.joined(self.addressing(), self.counting(), self.signalling(), self.squelch())
     }
 }

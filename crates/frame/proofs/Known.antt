@@ -3,12 +3,12 @@ use mathlib.Core.Path.{refl}
 use Rattle.bits.specs.Bits.{bits-of, number-from, byte-bits, plus}
 use Rattle.bits.specs.Division.{divided}
 use Rattle.codes.specs.Convolution.{coded-after}
-use Rattle.codes.specs.Crc.{inverted}
+use Rattle.codes.specs.Crc.{all-inverted}
 use Rattle.golay.proofs.Values.{values}
 use Rattle.frame.specs.Known.{Known-values}
 
 pub known-values : Known-values
-unfolding bits-of number-from byte-bits plus divided inverted coded-after
+unfolding bits-of number-from byte-bits plus divided all-inverted coded-after
 known-values =
     record {
       crc-of-zeros = refl;

@@ -13,8 +13,8 @@ use Rattle.bits.specs.Dibits.{dibit-bytes, dibits-of, byte-by}
 use Rattle.bits.proofs.Packing.{dibits-of-append, dibits-of-bytes, length-dibits-of, bytes-by}
 use Rattle.codes.specs.Convolution.{coded}
 use Rattle.codes.specs.Interleaving.{place-of, item-at}
-use Rattle.fields.specs.declared.fich.Fich.{Fich}
-use Rattle.layout.specs.declared.Block.the-variants.{Fich as FichBlock, First, Second}
+use Rattle.fields.specs.declared.fich.Fich.{Fich as FichFields}
+use Rattle.layout.specs.declared.Block.the-variants.{Fich, First, Second}
 use Rattle.layout.specs.Places.{sync-word, stands, length-of}
 use Rattle.frame.specs.Coding.{dibit-at, interleaved, block-bytes, by-turns}
 use Rattle.frame.specs.Header.{fich-inputs, unit-inputs, first-data, second-data, fich-block, unit-block, paired-units, header-frame, Carries, Header-of, Laid-out}
@@ -38,7 +38,7 @@ block-at m inputs j i h e =
     ∙ getD-map-counting (dibit-at m (coded inputs)) 0 (20 * m) j j D00 h (omega arith)
     ∙ ap (λ k. getD (coded inputs) k D00) e
 
-module _ (f : Fich) (message : List ℕ) where
+module _ (f : FichFields) (message : List ℕ) where
   one : List ℕ
   one = unit-block (first-data message)
 
@@ -87,7 +87,7 @@ module _ (f : Fich) (message : List ℕ) where
       ∙ ap (λ n. getD (dibits-of (paired-units message)) n D00) (omega arith)
       ∙ ap (λ l. getD l k D00) (dibits-by-turns 9 5 one two)
 
-  carries-fich : Carries (header-frame f message) FichBlock (fich-inputs f)
+  carries-fich : Carries (header-frame f message) Fich (fich-inputs f)
   carries-fich i h =
       let j = place-of 5 i in
       let below : j < 100 = omega arith in

@@ -12,10 +12,11 @@ use Rattle.std.proofs.shelf.Lists.{nil-from-length}
 use Rattle.bits.specs.Bits.{Bits, bits-of, number-of, byte-bits}
 use Rattle.bits.specs.Division.{remainder}
 use Rattle.bits.proofs.Numbers.{length-bits-of, bits-bits-of, bits-of-cat, bits-number, number-below, byte-bits-append, bits-byte-bits}
+use Rattle.bits.proofs.Divides.{length-remainder}
 use Rattle.codes.specs.Crc.{crc, crc-generator, check-bits}
-use Rattle.codes.proofs.Checks.{length-inverted, bits-inverted}
+use Rattle.codes.proofs.Checks.{length-all-inverted, bits-all-inverted}
 use Rattle.golay.specs.Golay.{golay, code-of}
-use Rattle.golay.proofs.Linear.{length-golay, bits-golay, length-remainder}
+use Rattle.golay.proofs.Linear.{length-golay, bits-golay}
 use Rattle.frame.specs.Header.{golay-words}
 
 golay-size : (d : ℕ) → length (golay (bits-of 12 d)) ≡ 24
@@ -105,8 +106,8 @@ two-listed n m xs ys bs cs ex ey eb ec =
 
 check-bits-size : (bs : List ℕ) → Bits bs → (length (check-bits bs) ≡ 16) × Bits (check-bits bs)
 check-bits-size bs h =
-    (length-inverted (remainder crc-generator bs) ∙ length-remainder crc-generator bs (omega arith) h,
-    bits-inverted (remainder crc-generator bs))
+    (length-all-inverted (remainder crc-generator bs) ∙ length-remainder crc-generator bs (omega arith) h,
+    bits-all-inverted (remainder crc-generator bs))
 
 -- the checksum as two bytes
 check-bytes : (bs : List ℕ) (n : ℕ) → Bits bs → n ≡ number-of (check-bits bs) → bits-of 8 (n / 256) ++ bits-of 8 (n % 256) ≡ check-bits bs

@@ -1,11 +1,12 @@
 //! From data to inputs, and from inputs to the interleaved dibits of a block.
 ghost use mathlib.Core.Path.{_≡_};
 ghost use Prim.Native.Nat.{_+_, _*_, _<_};
-ghost use lib.ListN.{length};
+ghost use lib.ListN.{length, take};
 ghost use Rattle.bits.specs.Bits.{byte-bits};
 ghost use Rattle.bits.specs.Dibits.{value-of, byte-by};
 ghost use Rattle.codes.specs.Convolution.{coded};
 ghost use Rattle.codes.specs.Interleaving.{rows-of};
+ghost use Rattle.codes.specs.Whitening.{whitened};
 ghost use Rattle.frame.specs.Coding.{dibit-at, block-bytes, unit-bytes};
 use codes::convolution::coded_dibit;
 use codes::crc::crc16;
@@ -42,15 +43,33 @@ pub(crate) fn fill_block(inputs: &[u8], interleave: Interleave, block: &mut [u8]
     }
 }
 
+/// Copies data into the front of a unit, and whitens it there.
+fn whiten_into(bytes: &[u8], unit: &mut [u8])
+    requires { ⌜ length (now unit) ≡ length (now bytes) + 2 ⌝ }
+    ensures { λ _. ⌜ take (length (now (bytes .entry))) (now (unit .exit)) ≡ whitened (now (bytes .entry)) ⌝ }
+{
+    let n = bytes.len();
+    unit[0..n].copy_from_slice(bytes);
+    whiten(&mut unit[0..n]);
+}
+
+/// Writes the checksum of the whitened data in front of it.
+fn seal(bytes: &[u8], unit: &mut [u8])
+    requires sized { ⌜ length (now unit) ≡ length (now bytes) + 2 ⌝ }
+    requires white { ⌜ take (length (now bytes)) (now unit) ≡ whitened (now bytes) ⌝ }
+    ensures { λ _. ⌜ now (unit .exit) ≡ unit-bytes (now (bytes .entry)) ⌝ }
+{
+    let n = bytes.len();
+    let crc = crc16(&unit[0..n]);
+    unit[n] = (crc / 256) as u8;
+    unit[n + 1] = (crc % 256) as u8;
+}
+
 /// Writes the unit of some data: the data whitened, then the checksum of that.
 pub(crate) fn fill_unit(bytes: &[u8], unit: &mut [u8])
     requires { ⌜ length (now unit) ≡ length (now bytes) + 2 ⌝ }
     ensures { λ _. ⌜ now (unit .exit) ≡ unit-bytes (now (bytes .entry)) ⌝ }
 {
-    let n = bytes.len();
-    unit[0..n].copy_from_slice(bytes);
-    whiten(&mut unit[0..n]);
-    let crc = crc16(&unit[0..n]);
-    unit[n] = (crc / 256) as u8;
-    unit[n + 1] = (crc % 256) as u8;
+    whiten_into(bytes, unit);
+    seal(bytes, unit);
 }

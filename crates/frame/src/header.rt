@@ -4,11 +4,11 @@ ghost use mathlib.Core.List.{_++_};
 ghost use Prim.Native.Nat.{_<_};
 ghost use lib.ListN.{length, getD, take, drop};
 ghost use Rattle.bits.specs.Bits.{bits-of, byte-bits};
-ghost use Rattle.fault.specs.Faults.{refused-or, unless};
-ghost use Rattle.fields.specs.Settings.{header-fich};
+ghost use Rattle.fault.specs.Faults.{refused-or};
+ghost use Rattle.fields.specs.Settings.{checked-header};
 ghost use Rattle.golay.specs.Golay.{golay};
 ghost use Rattle.frame.specs.Coding.{by-turns};
-ghost use Rattle.frame.specs.Header.{golay-words, fich-inputs, fich-block, unit-block, paired-units, header-frame, header-fault, Laid-out};
+ghost use Rattle.frame.specs.Header.{golay-words, fich-inputs, fich-block, unit-block, paired-units, header-frame, length-fault, header-fault, frame-after, Laid-out};
 ghost use Rattle.frame.specs.Known.{Known-values};
 use crate::coding::fill_block;
 use crate::coding::fill_unit;
@@ -113,21 +113,38 @@ fn write_frame(frame: &mut [u8], message: &[u8], fich: &Fich)
     write_units(&mut frame[30..120], message);
 }
 
-/// Writes the header frame of a transmission with these settings into `frame`: who calls whom stands in the first
-/// forty bytes of the message.
-pub fn write_header(frame: &mut [u8], message: &[u8], mode: DataType, settings: &Settings) -> Result<(), Fault>
-    ensures value { λ r. ⌜ r ≡ refused-or (header-fault (now (settings .entry)) (length (now (frame .entry))) (length (now (message .entry)))) tt ⌝ }
-    ensures after { λ _. ⌜ now (frame .exit) ≡ unless (header-fault (now (settings .entry)) (length (now (frame .entry))) (length (now (message .entry)))) (header-frame (header-fich (now (settings .entry)) mode) (now (message .entry))) (now (frame .entry)) ⌝ }
+fn check_lengths(frame: usize, message: usize) -> Result<(), Fault>
+    ensures { λ r. ⌜ r ≡ refused-or (length-fault frame message) tt ⌝ }
+{
+    if frame != FRAME_BYTES {
+        return Err(Fault::WrongLength(Buffer::Frame));
+    }
+    if message != MESSAGE_BYTES {
+        return Err(Fault::WrongLength(Buffer::Message));
+    }
+    Ok(())
+}
+
+/// Writes the frame of a FICH that the settings may have refused.
+fn write_checked(frame: &mut [u8], message: &[u8], fich: Result<Fich, Fault>) -> Result<(), Fault>
+    ensures value { λ r. ⌜ r ≡ refused-or (header-fault fich (length (now (frame .entry))) (length (now (message .entry)))) tt ⌝ }
+    ensures after { λ _. ⌜ now (frame .exit) ≡ frame-after fich (now (message .entry)) (now (frame .entry)) ⌝ }
     ensures layout { λ _. ⌜ Laid-out ⌝ }
     ensures known { λ _. ⌜ Known-values ⌝ }
 {
-    let fich = settings.header(mode)?;
-    if frame.len() != FRAME_BYTES {
-        return Err(Fault::WrongLength(Buffer::Frame));
-    }
-    if message.len() != MESSAGE_BYTES {
-        return Err(Fault::WrongLength(Buffer::Message));
-    }
+    let fich = fich?;
+    check_lengths(frame.len(), message.len())?;
     write_frame(frame, message, &fich);
     Ok(())
+}
+
+/// Writes the header frame of a transmission with these settings into `frame`: who calls whom stands in the first
+/// forty bytes of the message.
+pub fn write_header(frame: &mut [u8], message: &[u8], mode: DataType, settings: &Settings) -> Result<(), Fault>
+    ensures value { λ r. ⌜ r ≡ refused-or (header-fault (checked-header (now (settings .entry)) mode) (length (now (frame .entry))) (length (now (message .entry)))) tt ⌝ }
+    ensures after { λ _. ⌜ now (frame .exit) ≡ frame-after (checked-header (now (settings .entry)) mode) (now (message .entry)) (now (frame .entry)) ⌝ }
+    ensures layout { λ _. ⌜ Laid-out ⌝ }
+    ensures known { λ _. ⌜ Known-values ⌝ }
+{
+    write_checked(frame, message, settings.header(mode))
 }

@@ -12,9 +12,9 @@ use lib.Seq.{take-at}
 use Rattle.bits.specs.Bits.{Bits, bits-of, number-from, number-of, plus}
 use Rattle.bits.specs.Division.{divided, remainder, shifted, fed}
 use Rattle.bits.proofs.Numbers.{length-bits-of, bits-bits-of, bits-append, bits-of-cat, bits-number, number-below, number-bits, number-of-bits-of, number-from-append, number-from-is}
-use Rattle.bits.proofs.Divides.{remainder-fed, remainder-low}
+use Rattle.bits.proofs.Divides.{remainder-fed, remainder-low, length-remainder, bits-remainder}
 use Rattle.golay.specs.Golay.{generator, aligned, total, with-parity, code-of, check-of}
-use Rattle.golay.proofs.Linear.{length-remainder, bits-remainder, code-xor}
+use Rattle.golay.proofs.Linear.{code-xor}
 use Rattle.golay.proofs.Weights.{ones-number}
 
 -- ---- the register

@@ -7,9 +7,9 @@ use native.Mathlib.Omega.{arith}
 use lib.Bits.{bitXor, xor-lt}
 use lib.ListN.{length, replicate, length-append, length-replicate}
 use Rattle.bits.specs.Bits.{Bits, bits-of, number-of, plus}
-use Rattle.bits.specs.Division.{divided, remainder, shifted, fed}
+use Rattle.bits.specs.Division.{divided, remainder}
 use Rattle.bits.proofs.Numbers.{length-bits-of, bits-bits-of, bits-append, bits-number, same-number, number-below}
-use Rattle.bits.proofs.Divides.{length-shifted, bits-shifted, remainder-fed}
+use Rattle.bits.proofs.Divides.{length-remainder, bits-remainder}
 use Rattle.bits.proofs.Sums.{length-plus, bits-plus, bits-replicate, plus-swap, plus-plus, plus-twice, plus-zeros, plus-append, bits-of-xor}
 use Rattle.golay.specs.Golay.{generator, total, with-parity, golay, code-of}
 
@@ -55,24 +55,6 @@ remainder-plus g xs ys e p q =
     (bits-append xs zs p (bits-replicate w))
     (bits-append ys zs q (bits-replicate w))
     ∙ ap (λ n. plus (remainder g xs) (divided g n (ys ++ zs))) e
-
-length-fed : (g register ms : List ℕ) → length (fed g register ms) ≡ length register
-unfolding fed
-length-fed g register [] = refl
-length-fed g register (b ∷ ms) = length-fed g (shifted g register b) ms ∙ length-shifted g register b
-
-bits-fed : (g register ms : List ℕ) → Bits register → Bits (fed g register ms)
-unfolding fed
-bits-fed g register [] h = h
-bits-fed g register (b ∷ ms) h = bits-fed g (shifted g register b) ms (bits-shifted g register b h)
-
-pub length-remainder : (g ms : List ℕ) → 0 < length g → Bits ms → length (remainder g ms) ≡ length g
-length-remainder g ms some h =
-    ap length (remainder-fed g ms some h) ∙ length-fed g (replicate (length g) 0) ms ∙ length-replicate (length g) 0
-
-pub bits-remainder : (g ms : List ℕ) → 0 < length g → Bits ms → Bits (remainder g ms)
-bits-remainder g ms some h =
-    subst Bits (sym (remainder-fed g ms some h)) (bits-fed g (replicate (length g) 0) ms (bits-replicate (length g)))
 
 -- ---- numbers
 
