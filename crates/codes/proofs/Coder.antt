@@ -23,7 +23,7 @@ xor-bit false false = refl
 -- the taps on bits as truth values
 pub tapped-bits : (u u1 u2 u3 u4 : Bool)
     → dibit (cond (not (Bool·beq (not (Bool·beq u u3)) u4)) 1 0) (cond (not (Bool·beq (not (Bool·beq (not (Bool·beq u u1)) u2)) u4)) 1 0)
-      ≡ symbol (cond u 1 0) (cond u1 1 0) (cond u2 1 0) (cond u3 1 0) (cond u4 1 0)
+    ≡ symbol (cond u 1 0) (cond u1 1 0) (cond u2 1 0) (cond u3 1 0) (cond u4 1 0)
 tapped-bits u u1 u2 u3 u4 =
     let a = xor-bit u u3 in
     let first = xor-bit (not (Bool·beq u u3)) u4 in
@@ -55,8 +55,8 @@ before-step past us u i k h =
     ⊎-elim
     (λ e. before-past (u ∷ past) us i k 0 (omega arith) ∙ sym (before-in past (u ∷ us) (suc i) k 0 (omega arith)))
     (⊎-elim
-      (λ l. before-in (u ∷ past) us i k (i - k) (omega arith) ∙ sym (before-in past (u ∷ us) (suc i) k (suc (i - k)) (omega arith)))
-      (λ l. before-past (u ∷ past) us i k (suc (k - i - 2)) (omega arith) ∙ sym (before-past past (u ∷ us) (suc i) k (k - i - 2) (omega arith))))
+    (λ l. before-in (u ∷ past) us i k (i - k) (omega arith) ∙ sym (before-in past (u ∷ us) (suc i) k (suc (i - k)) (omega arith)))
+    (λ l. before-past (u ∷ past) us i k (suc (k - i - 2)) (omega arith) ∙ sym (before-past past (u ∷ us) (suc i) k (k - i - 2) (omega arith))))
     (cases-order k (suc i))
 
 getD-coded-after : (past us : List ℕ) (i : ℕ) → i < length us
@@ -111,7 +111,7 @@ coded-at us i =
     let size = length-coded-after [] (us ++ rest) in
     ⊎-elim
     (λ l. getD-coded-after [] (us ++ rest) i l
-        ∙ symbol-same _ _ _ _ _ _ _ _ _ _ (getD-with-rest us i ∙ sym (input-here us i)) (nothing-before us i 1) (nothing-before us i 2) (nothing-before us i 3) (nothing-before us i 4))
+    ∙ symbol-same _ _ _ _ _ _ _ _ _ _ (getD-with-rest us i ∙ sym (input-here us i)) (nothing-before us i 1) (nothing-before us i 2) (nothing-before us i 3) (nothing-before us i 4))
     (λ l. getD-past (coded us) i D00 (omega arith)
-        ∙ sym (symbol-same _ 0 _ 0 _ 0 _ 0 _ 0 (past-end us i 0 (omega arith)) (past-end us i 1 (omega arith)) (past-end us i 2 (omega arith)) (past-end us i 3 (omega arith)) (past-end us i 4 (omega arith))))
+    ∙ sym (symbol-same _ 0 _ 0 _ 0 _ 0 _ 0 (past-end us i 0 (omega arith)) (past-end us i 1 (omega arith)) (past-end us i 2 (omega arith)) (past-end us i 3 (omega arith)) (past-end us i 4 (omega arith))))
     (cases-lt i (length (us ++ rest)))

@@ -118,10 +118,10 @@ white-from-cons r b bs hb hr =
     let s = bits-of 9 r in
     let n = length bs in
     let sum : plus (bits-of 8 b ++ byte-bits bs) (whites (8 * suc n) s) ≡ bits-of 8 (bitXor b (r / 2)) ++ plus (byte-bits bs) (whites (8 * n) (further 8 s)) =
-        ap (plus (bits-of 8 b ++ byte-bits bs)) (whites-eight n s)
-        ∙ plus-append (bits-of 8 b) (byte-bits bs) (whites 8 s) (whites (8 * n) (further 8 s)) (length-bits-of 8 b ∙ sym (length-whites 8 s))
-        ∙ ap (λ l. plus (bits-of 8 b) l ++ plus (byte-bits bs) (whites (8 * n) (further 8 s))) (eight-bits r)
-        ∙ ap (λ l. l ++ plus (byte-bits bs) (whites (8 * n) (further 8 s))) (sym (bits-of-xor 8 b (r / 2))) in
+    ap (plus (bits-of 8 b ++ byte-bits bs)) (whites-eight n s)
+    ∙ plus-append (bits-of 8 b) (byte-bits bs) (whites 8 s) (whites (8 * n) (further 8 s)) (length-bits-of 8 b ∙ sym (length-whites 8 s))
+    ∙ ap (λ l. plus (bits-of 8 b) l ++ plus (byte-bits bs) (whites (8 * n) (further 8 s))) (eight-bits r)
+    ∙ ap (λ l. l ++ plus (byte-bits bs) (whites (8 * n) (further 8 s))) (sym (bits-of-xor 8 b (r / 2))) in
     ap (numbers-of 8 (suc n)) sum
     ∙ numbers-of-cons 8 n (bits-of 8 (bitXor b (r / 2))) _ (length-bits-of 8 (bitXor b (r / 2)))
     ∙ ap (λ x. x ∷ white-from (further 8 s) bs) (number-bits 8 (bitXor b (r / 2)) (xor-lt 8 b (r / 2) hb (omega arith)))
@@ -140,7 +140,7 @@ white-more bytes all i r r′ h small hr e inv =
     let v = bitXor b (r / 2) in
     let rest = drop (i + 1) bytes in
     let left : white-from (bits-of 9 r) (drop i bytes) ≡ v ∷ white-from (bits-of 9 r′) rest =
-        ap (white-from (bits-of 9 r)) (drop-more bytes i 0 h) ∙ white-from-cons r b rest small hr ∙ ap (λ s. v ∷ white-from s rest) (sym e) in
+    ap (white-from (bits-of 9 r)) (drop-more bytes i 0 h) ∙ white-from-cons r b rest small hr ∙ ap (λ s. v ∷ white-from s rest) (sym e) in
     ap (λ l. l ++ white-from (bits-of 9 r′) (drop (i + 1) (set bytes i v))) (take-more-set bytes i v h)
     ∙ ap (λ l. (take i bytes ++ v ∷ []) ++ white-from (bits-of 9 r′) l) (drop-set-lt (i + 1) bytes i v (omega arith))
     ∙ append-assoc (take i bytes) (v ∷ []) (white-from (bits-of 9 r′) rest)

@@ -2,7 +2,6 @@
 pub mod convolution;
 pub mod crc;
 pub mod interleave;
-pub mod whitening;
-
 #[cfg(test)]
 mod tests;
+pub mod whitening;

@@ -48,7 +48,7 @@ pub counting-byte : (f : Fich) → bits-of 8 (counting-number f) ≡ counting-bi
 counting-byte f =
     ap (bits-of 8) (omega arith)
     ∙ cut-above 2 6 (f .«block_total») (f .«frame_number» % 8 * 8 + f .«frame_total» % 8) _ (omega arith)
-      (cut-above 3 3 (f .«frame_number») (f .«frame_total» % 8) _ (omega arith) (bits-of-mod 3 (f .«frame_total»)))
+    (cut-above 3 3 (f .«frame_number») (f .«frame_total» % 8) _ (omega arith) (bits-of-mod 3 (f .«frame_total»)))
 
 pub squelch-byte : (f : Fich) → bits-of 8 (squelch-number f) ≡ squelch-bits f
 squelch-byte f = above 1 7 (flag-value (f .«squelch_off»)) (f .«squelch_code» % 128) _ (omega arith) (bits-of-mod 7 (f .«squelch_code»))
@@ -60,7 +60,7 @@ addressing-byte f =
     let h = call-below (f .«call_mode») in
     ap (bits-of 8) (omega arith)
     ∙ above 2 6 (kind-value (f .kind)) (2 * 2 ^ 4 + (cm * 2 ^ 2 + bn % 4)) _ (omega arith)
-      (above 2 4 2 (cm * 2 ^ 2 + bn % 4) _ (omega arith) (above 2 2 cm (bn % 4) _ (omega arith) (bits-of-mod 2 bn)))
+    (above 2 4 2 (cm * 2 ^ 2 + bn % 4) _ (omega arith) (above 2 2 cm (bn % 4) _ (omega arith) (bits-of-mod 2 bn)))
 
 pub signalling-byte : (f : Fich) → bits-of 8 (signalling-number f) ≡ signalling-bits f
 signalling-byte f =
@@ -74,8 +74,8 @@ signalling-byte f =
     let ht = type-below (f .«data_type») in
     ap (bits-of 8) (omega arith)
     ∙ above 1 7 (flag-value (f .reserved)) (dev * 2 ^ 6 + (mr * 2 ^ 3 + (voip * 2 ^ 2 + dt))) _ (omega arith)
-      (above 1 6 dev (mr * 2 ^ 3 + (voip * 2 ^ 2 + dt)) _ (omega arith)
-        (above 3 3 mr (voip * 2 ^ 2 + dt) _ (omega arith) (above 1 2 voip dt _ (omega arith) refl)))
+    (above 1 6 dev (mr * 2 ^ 3 + (voip * 2 ^ 2 + dt)) _ (omega arith)
+    (above 3 3 mr (voip * 2 ^ 2 + dt) _ (omega arith) (above 1 2 voip dt _ (omega arith) refl)))
 
 -- four bytes by their bits
 pub four-bytes : (a b c d : ℕ) (ws bs cs ds : List ℕ) → bits-of 8 a ≡ ws → bits-of 8 b ≡ bs → bits-of 8 c ≡ cs → bits-of 8 d ≡ ds

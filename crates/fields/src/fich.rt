@@ -165,6 +165,11 @@ impl Fich {
         ensures value { λ r. ⌜ r ≡ fich-bytes (now (self .entry)) ⌝ }
         ensures bits { λ r. ⌜ byte-bits r ≡ fich-bits (now (self .entry)) ⌝ }
     {
-        self.joined(self.addressing(), self.counting(), self.signalling(), self.squelch())
+        self.joined(
+            self.addressing(),
+            self.counting(),
+            self.signalling(),
+            self.squelch(),
+        )
     }
 }

@@ -43,7 +43,13 @@ impl Settings {
     fn is_allowed(&self) -> bool
         ensures { λ r. ⌜ r ≡ allowed (now (self .entry)) ⌝ }
     {
-        self.cm < 4 && self.cm != 2 && self.mr < 3 && self.dev < 2 && self.voip < 2 && self.sql < 2 && self.sc < 128
+        self.cm < 4
+            && self.cm != 2
+            && self.mr < 3
+            && self.dev < 2
+            && self.voip < 2
+            && self.sql < 2
+            && self.sc < 128
     }
 
     /// The FICH of a header with these settings, or a refusal where one is not allowed.

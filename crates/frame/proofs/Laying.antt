@@ -73,9 +73,9 @@ three-parts copied sync part fich written units old e1 e2 e3 long s1 s2 s3 =
     let rest = drop 5 old in
     let tail = drop 25 rest in
     let inner : putMid 5 25 (sync ++ rest) fich ≡ (sync ++ fich) ++ tail =
-        ap (λ l. l ++ (fich ++ drop 25 (drop 5 (sync ++ rest)))) (take-at sync rest 5 s1)
-        ∙ ap (λ l. sync ++ (fich ++ drop 25 l)) (drop-at sync rest 5 s1)
-        ∙ sym (append-assoc sync fich tail) in
+    ap (λ l. l ++ (fich ++ drop 25 (drop 5 (sync ++ rest)))) (take-at sync rest 5 s1)
+    ∙ ap (λ l. sync ++ (fich ++ drop 25 l)) (drop-at sync rest 5 s1)
+    ∙ sym (append-assoc sync fich tail) in
     let front : length (sync ++ fich) ≡ 30 = length-append sync fich ∙ omega arith in
     let back : length tail ≡ 90 = length-drop 25 rest ∙ omega (arith, length-drop 5 old) in
     ap (λ l. putMid 30 90 (putMid 5 25 (l ++ rest) part) written) e1

@@ -81,9 +81,9 @@ words-of-three a b c hb hc =
     let one = golay-word-one (bits-of 12 p) (length-bits-of 12 p) in
     let two = golay-word-one (bits-of 12 q) (length-bits-of 12 q) in
     sym (ap (golay-words 2) (twelves a b c hb hc)
-        ∙ golay-words-append 1 1 (bits-of 12 p) (bits-of 12 q) (length-bits-of 12 p)
-        ∙ ap (λ l. l ++ golay-words 1 (bits-of 12 q)) one
-        ∙ ap (λ l. golay (bits-of 12 p) ++ l) two)
+    ∙ golay-words-append 1 1 (bits-of 12 p) (bits-of 12 q) (length-bits-of 12 p)
+    ∙ ap (λ l. l ++ golay-words 1 (bits-of 12 q)) one
+    ∙ ap (λ l. golay (bits-of 12 p) ++ l) two)
 
 -- ---- lists that are written out item by item
 
@@ -105,9 +105,10 @@ two-listed n m xs ys bs cs ex ey eb ec =
 -- ---- the FICH and its checksum
 
 check-bits-size : (bs : List ℕ) → Bits bs → (length (check-bits bs) ≡ 16) × Bits (check-bits bs)
-check-bits-size bs h =
-    (length-all-inverted (remainder crc-generator bs) ∙ length-remainder crc-generator bs (omega arith) h,
-    bits-all-inverted (remainder crc-generator bs))
+check-bits-size bs h = (
+  length-all-inverted (remainder crc-generator bs) ∙ length-remainder crc-generator bs (omega arith) h,
+  bits-all-inverted (remainder crc-generator bs),
+)
 
 -- the checksum as two bytes
 check-bytes : (bs : List ℕ) (n : ℕ) → Bits bs → n ≡ number-of (check-bits bs) → bits-of 8 (n / 256) ++ bits-of 8 (n % 256) ≡ check-bits bs
@@ -128,8 +129,8 @@ regrouped a b c d e = simp (append-assoc, append-nil)
 -- the six bytes of FICH and checksum as four words
 pub words-of-six : (bytes bits : List ℕ) (n : ℕ) → length bytes ≡ 4 → byte-bits bytes ≡ bits → n ≡ crc bytes
     → golay-words 2 (bits-of 8 (getD bytes 0 0) ++ (bits-of 8 (getD bytes 1 0) ++ bits-of 8 (getD bytes 2 0)))
-        ++ golay-words 2 (bits-of 8 (getD bytes 3 0) ++ (bits-of 8 (n / 256) ++ bits-of 8 (n % 256)))
-      ≡ golay-words 4 (bits ++ check-bits bits)
+    ++ golay-words 2 (bits-of 8 (getD bytes 3 0) ++ (bits-of 8 (n / 256) ++ bits-of 8 (n % 256)))
+    ≡ golay-words 4 (bits ++ check-bits bits)
 unfolding byte-bits
 words-of-six bytes bits n four e crc-is =
     let a = bits-of 8 (getD bytes 0 0) in
@@ -139,8 +140,8 @@ words-of-six bytes bits n four e crc-is =
     let check = bits-of 8 (n / 256) ++ bits-of 8 (n % 256) in
     let whole : bits ≡ a ++ (b ++ (c ++ (d ++ []))) = sym e ∙ ap byte-bits (sym (listed-is 4 bytes four)) in
     let checked : check ≡ check-bits bits =
-        check-bytes (byte-bits bytes) n (bits-byte-bits bytes) crc-is ∙ ap check-bits e in
+    check-bytes (byte-bits bytes) n (bits-byte-bits bytes) crc-is ∙ ap check-bits e in
     let joined : (a ++ (b ++ c)) ++ (d ++ check) ≡ bits ++ check-bits bits =
-        regrouped a b c d check ∙ ap (λ l. l ++ check) (sym whole) ∙ ap (λ l. bits ++ l) checked in
+    regrouped a b c d check ∙ ap (λ l. l ++ check) (sym whole) ∙ ap (λ l. bits ++ l) checked in
     sym (golay-words-append 2 2 (a ++ (b ++ c)) (d ++ check) (three-size (getD bytes 0 0) (getD bytes 1 0) (getD bytes 2 0)))
     ∙ ap (golay-words 4) joined

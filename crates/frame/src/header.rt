@@ -1,6 +1,6 @@
 //! The header frame, which says who calls whom.
-ghost use mathlib.Core.Path.{_≡_};
 ghost use mathlib.Core.List.{_++_};
+ghost use mathlib.Core.Path.{_≡_};
 ghost use Prim.Native.Nat.{_<_};
 ghost use lib.ListN.{length, getD, take, drop};
 ghost use Rattle.bits.specs.Bits.{bits-of, byte-bits};
@@ -35,7 +35,11 @@ fn golay_bytes(twelve: u16) -> [u8; 3]
     ensures { λ r. ⌜ byte-bits r ≡ golay (bits-of 12 twelve) ⌝ }
 {
     let word = codeword(twelve);
-    [(word / 65536) as u8, (word / 256 % 256) as u8, (word % 256) as u8]
+    [
+        (word / 65536) as u8,
+        (word / 256 % 256) as u8,
+        (word % 256) as u8,
+    ]
 }
 
 /// The two Golay words of three bytes.
@@ -140,7 +144,12 @@ fn write_checked(frame: &mut [u8], message: &[u8], fich: Result<Fich, Fault>) ->
 
 /// Writes the header frame of a transmission with these settings into `frame`: who calls whom stands in the first
 /// forty bytes of the message.
-pub fn write_header(frame: &mut [u8], message: &[u8], mode: DataType, settings: &Settings) -> Result<(), Fault>
+pub fn write_header(
+    frame: &mut [u8],
+    message: &[u8],
+    mode: DataType,
+    settings: &Settings,
+) -> Result<(), Fault>
     ensures value { λ r. ⌜ r ≡ refused-or (header-fault (checked-header (now (settings .entry)) mode) (length (now (frame .entry))) (length (now (message .entry)))) tt ⌝ }
     ensures after { λ _. ⌜ now (frame .exit) ≡ frame-after (checked-header (now (settings .entry)) mode) (now (message .entry)) (now (frame .entry)) ⌝ }
     ensures layout { λ _. ⌜ Laid-out ⌝ }

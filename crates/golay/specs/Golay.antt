@@ -1,5 +1,5 @@
--- The extended Golay code (24,12,8). A codeword is twelve data bits, the remainder of the data times x^11 by
--- x^11 + x^10 + x^6 + x^5 + x^4 + x^2 + 1, and one bit that makes the number of ones even.
+-- The extended Golay code (24,12,8). A codeword is twelve data bits, the remainder that they leave eleven places up when
+-- they are divided by the polynomial with the powers 11, 10, 6, 5, 4, 2 and 0, and one bit that makes the number of ones even.
 use mathlib.Core.Bool.{cond}
 use mathlib.Core.List.{List, [], _∷_, _++_}
 use mathlib.Core.Path.{_≡_}

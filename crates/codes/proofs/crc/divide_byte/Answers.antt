@@ -20,7 +20,7 @@ loop-k-again c =
     let s = bits-of 16 (c .loop-k .rest) in
     let x = byte / 2 ^ (7 - k) % 2 in
     let bit : cond (eqb x 1) 1 0 ≡ getD (bits-of 8 byte) k 0 =
-        bit-test x (mod-lt (byte / 2 ^ (7 - k)) (omega arith)) ∙ sym (getD-bits-of 8 byte k (7 - k) (omega arith)) in
+    bit-test x (mod-lt (byte / 2 ^ (7 - k)) (omega arith)) ∙ sym (getD-bits-of 8 byte k (7 - k) (omega arith)) in
     fed-more crc-generator (bits-of 8 byte) _ s (bits-of 16 (c .shift-in-rest .result)) k (omega (arith, length-bits-of 8 byte))
     (c .shift-in-rest .ensures ∙ ap (λ g. shifted g s (cond (eqb x 1) 1 0)) generator-bits ∙ ap (shifted crc-generator s) bit)
     (c .loop-k .inv)

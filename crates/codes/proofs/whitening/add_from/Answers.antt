@@ -13,9 +13,10 @@ loop-byte-holds c =
     (omega (arith, c .pre), ap (λ r. white-from (bits-of 9 r) bytes) (c .pre) ∙ white-start bytes)
 
 pub loop-byte-again : need.loop-byte-again
-loop-byte-again c =
-    (c .eight-on-register .ensures .small,
-    white-more (c .loop-byte .bytes) _ (c .loop-byte .byte-index) (c .loop-byte .register) (c .eight-on-register .result) (omega arith) (search needs) (c .loop-byte .inv .0) (c .eight-on-register .ensures .bits) (c .loop-byte .inv .1))
+loop-byte-again c = (
+  c .eight-on-register .ensures .small,
+  white-more (c .loop-byte .bytes) _ (c .loop-byte .byte-index) (c .loop-byte .register) (c .eight-on-register .result) (omega arith) (search needs) (c .loop-byte .inv .0) (c .eight-on-register .ensures .bits) (c .loop-byte .inv .1),
+)
 
 pub returns : need.returns
 returns c =

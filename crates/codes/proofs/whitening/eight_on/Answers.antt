@@ -9,9 +9,10 @@ pub loop-k-again : need.loop-k-again
 unfolding further
 loop-k-again c =
     let left = 8 - (c .loop-k .-k + 1) in
-    let e : suc left ≡ 8 - c .loop-k .-k = omega arith in
-    (c .one-on-further-on .ensures .small,
-    ap (further left) (c .one-on-further-on .ensures .bits) ∙ ap (λ n. further n (bits-of 9 (c .loop-k .further-on))) e ∙ c .loop-k .inv .1)
+    let e : suc left ≡ 8 - c .loop-k .-k = omega arith in (
+      c .one-on-further-on .ensures .small,
+      ap (further left) (c .one-on-further-on .ensures .bits) ∙ ap (λ n. further n (bits-of 9 (c .loop-k .further-on))) e ∙ c .loop-k .inv .1,
+    )
 
 pub returns : need.returns
 unfolding further

@@ -8,9 +8,9 @@ pub returns : need.returns
 returns c =
     let f = c .args .self .now in
     let bits =
-        four-bytes (c .args .addressing) (c .args .counting) (c .args .signalling) (c .args .squelch) _ _ _ _
-        (ap (bits-of 8) (c .pre .addressing) ∙ addressing-byte f) (ap (bits-of 8) (c .pre .counting) ∙ counting-byte f)
-        (ap (bits-of 8) (c .pre .signalling) ∙ signalling-byte f) (ap (bits-of 8) (c .pre .squelch) ∙ squelch-byte f) in
+    four-bytes (c .args .addressing) (c .args .counting) (c .args .signalling) (c .args .squelch) _ _ _ _
+    (ap (bits-of 8) (c .pre .addressing) ∙ addressing-byte f) (ap (bits-of 8) (c .pre .counting) ∙ counting-byte f)
+    (ap (bits-of 8) (c .pre .signalling) ∙ signalling-byte f) (ap (bits-of 8) (c .pre .squelch) ∙ squelch-byte f) in
     record {
       value =
           four-numbers (c .args .addressing) (c .args .counting) (c .args .signalling) (c .args .squelch) _

@@ -1,0 +1,5 @@
+mod Changes
+mod Listing
+mod Numbers
+mod Padding
+mod Ranges

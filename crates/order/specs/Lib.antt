@@ -1,0 +1,6 @@
+pub mod Causes
+pub mod Changes
+pub mod Decimals
+pub mod Keys
+pub mod Lines
+pub mod Orders
