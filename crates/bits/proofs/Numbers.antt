@@ -3,14 +3,14 @@ use mathlib.Core.Path.{_≡_, refl, sym, ap, subst, _∙_}
 use mathlib.Core.Logic.{⊎-elim}
 use mathlib.Core.List.{List, [], _∷_, _++_, append-assoc}
 use Prim.Native.Nat.{ℕ, zero, suc, _+_, _-_, _*_, _/_, _%_, _^_, _<_, _≤_}
-use native.Mathlib.Nat.{add-suc, suc-add, zero-add, add-zero, add-comm, mod-lt, mul-assoc, mul-comm, add-mul, add-assoc, pow-suc, mul-add-div-right, div-eq-of-lt, mod-eq-of-lt}
+use native.Mathlib.Nat.{add-suc, suc-add, zero-add, add-zero, add-comm, mod-lt, mul-assoc, mul-comm, add-mul, add-assoc, pow-suc, mul-add-div-right, mod-eq-of-lt, mul-zero, mul-suc}
 use native.Mathlib.Numerals.{one-add, add-one}
 use native.Mathlib.Omega.{arith}
 use mathlib.Core.Bool.{cond}
 use lib.Dec.{eqb}
-use lib.ListN.{length, take, drop, getD, length-append}
+use lib.ListN.{length, take, drop, getD, length-append, length-drop}
 use lib.Pow.{pow-pos, pow-add, shr-shr, split, high, mod-pow-add}
-use lib.Seq.{take-at, drop-at}
+use lib.Seq.{take-at, drop-at, take-add, drop-drop, length-take-le}
 use Rattle.std.proofs.shelf.Bits.{mul-le}
 use Rattle.std.proofs.shelf.Tests.{cases-lt}
 use Rattle.std.proofs.shelf.Lists.{getD-append-left, getD-append-right, getD-past}
@@ -30,6 +30,16 @@ pub bits-append : (xs ys : List ℕ) → Bits xs → Bits ys → Bits (xs ++ ys)
 bits-append [] ys p q = q
 bits-append (x ∷ xs) ys p q = (p .0, bits-append xs ys (p .1) q)
 
+pub bits-take : (n : ℕ) (xs : List ℕ) → Bits xs → Bits (take n xs)
+bits-take zero xs h = tt
+bits-take (suc n) [] h = tt
+bits-take (suc n) (x ∷ xs) h = (h .0, bits-take n xs (h .1))
+
+pub bits-drop : (n : ℕ) (xs : List ℕ) → Bits xs → Bits (drop n xs)
+bits-drop zero xs h = h
+bits-drop (suc n) [] h = tt
+bits-drop (suc n) (x ∷ xs) h = bits-drop n xs (h .1)
+
 twice-pow : (a k : ℕ) → a * 2 ^ suc k ≡ (a * 2) * 2 ^ k
 twice-pow a k = ap (λ x. a * x) (pow-suc 2 k ∙ mul-comm (2 ^ k) 2) ∙ sym (mul-assoc a 2 (2 ^ k))
 
@@ -39,7 +49,7 @@ unfolding bits-of
 bits-of-low zero a r = refl
 bits-of-low (suc k) a r =
     let over : (a * 2 ^ suc k + r) / 2 ^ k ≡ a * 2 + r / 2 ^ k =
-    ap (λ x. (x + r) / 2 ^ k) (twice-pow a k) ∙ mul-add-div-right (pow-pos k) (a * 2) r in
+        ap (λ x. (x + r) / 2 ^ k) (twice-pow a k) ∙ mul-add-div-right (pow-pos k) (a * 2) r in
     let top : (a * 2 ^ suc k + r) / 2 ^ k % 2 ≡ r / 2 ^ k % 2 = omega arith in
     let rest : bits-of k (a * 2 ^ suc k + r) ≡ bits-of k r = ap (λ x. bits-of k (x + r)) (twice-pow a k) ∙ bits-of-low k (a * 2) r in
     cc
@@ -54,7 +64,7 @@ bits-of-cat zero k a r h = ap (λ w. bits-of w (a * 2 ^ k + r)) (zero-add k) ∙
 bits-of-cat (suc j) k a r h =
     let n = a * 2 ^ k + r in
     let top : n / 2 ^ (j + k) ≡ a / 2 ^ j =
-    ap (λ w. n / 2 ^ w) (add-comm j k) ∙ sym (shr-shr n k j) ∙ ap (λ x. x / 2 ^ j) (high a k h) in
+        ap (λ w. n / 2 ^ w) (add-comm j k) ∙ sym (shr-shr n k j) ∙ ap (λ x. x / 2 ^ j) (high a k h) in
     ap (λ w. bits-of w n) (suc-add j k)
     ∙ ap (λ x. x % 2 ∷ bits-of (j + k) n) top
     ∙ ap (λ l. a / 2 ^ j % 2 ∷ l) (bits-of-cat j k a r h)
@@ -174,8 +184,8 @@ bit-at-is bs i =
     ⊎-elim
     (λ l. sym (getD-byte-bits bs (i / 8) (i % 8) (omega arith) l) ∙ ap (λ k. getD (byte-bits bs) k 0) (omega arith))
     (λ l. ap (λ b. getD (bits-of 8 b) (i % 8) 0) (getD-past bs (i / 8) 0 l)
-    ∙ zero-bit (i % 8)
-    ∙ sym (getD-past (byte-bits bs) i 0 (omega (arith, length-byte-bits bs))))
+        ∙ zero-bit (i % 8)
+        ∙ sym (getD-past (byte-bits bs) i 0 (omega (arith, length-byte-bits bs))))
     (cases-lt (i / 8) (length bs))
 
 -- ---- groups of bits
@@ -192,6 +202,27 @@ numbers-of-cons w n g bs e =
     let a = take-at g bs w e in
     let b = drop-at g bs w e in
     cc
+
+-- one group more
+pub numbers-of-more : (w n : ℕ) (bs : List ℕ) → numbers-of w (suc n) bs ≡ numbers-of w n bs ++ number-of (take w (drop (w * n) bs)) ∷ []
+unfolding numbers-of
+numbers-of-more w zero bs = ap (λ j. number-of (take w (drop j bs)) ∷ []) (sym (mul-zero w))
+numbers-of-more w (suc n) bs =
+    ap (λ l. number-of (take w bs) ∷ l)
+    (numbers-of-more w n (drop w bs)
+    ∙ ap (λ l. numbers-of w n (drop w bs) ++ number-of (take w l) ∷ []) (drop-drop (w * n) w bs ∙ ap (λ j. drop j bs) (omega (arith, mul-suc w n))))
+
+-- the bits of whole groups of eight
+pub byte-bits-numbers : (n : ℕ) (bs : List ℕ) → 8 * n ≤ length bs → Bits bs → byte-bits (numbers-of 8 n bs) ≡ take (8 * n) bs
+unfolding byte-bits numbers-of
+byte-bits-numbers zero bs h p = refl
+byte-bits-numbers (suc n) bs h p =
+    let group : length (take 8 bs) ≡ 8 = length-take-le 8 bs (omega arith) in
+    let eight : 8 * suc n ≡ 8 + 8 * n = omega arith in
+    ap (λ l. l ++ byte-bits (numbers-of 8 n (drop 8 bs))) (bits-number 8 (take 8 bs) group (bits-take 8 bs p))
+    ∙ ap (λ l. take 8 bs ++ l) (byte-bits-numbers n (drop 8 bs) (omega (arith, length-drop 8 bs)) (bits-drop 8 bs p))
+    ∙ sym (take-add 8 (8 * n) bs)
+    ∙ ap (λ k. take k bs) (sym eight)
 
 pub numbers-of-none : (w : ℕ) (bs : List ℕ) → numbers-of w 0 bs ≡ []
 unfolding numbers-of

@@ -5,16 +5,27 @@ use Rattle.std.specs.declared.option.Option.{Option}
 use Rattle.std.specs.declared.option.Option.the-variants.{Some, None}
 use Rattle.std.specs.declared.result.Result.{Result}
 use Rattle.std.specs.declared.result.Result.the-variants.{Ok, Err}
+use Rattle.fault.specs.declared.Memory.{Memory}
+use Rattle.fault.specs.declared.Memory.the-variants.{Readings, Record, Totals, Numbers}
 use Rattle.fault.specs.declared.Buffer.{Buffer}
 use Rattle.fault.specs.declared.Buffer.the-variants.{Frame, Message}
 use Rattle.fault.specs.declared.Fault.{Fault}
-use Rattle.fault.specs.declared.Fault.the-variants.{NoCodeword, SettingNotAllowed, WrongLength, TooWide}
+use Rattle.fault.specs.declared.Fault.the-variants.{WrongSize, NoCodeword, SettingNotAllowed, WrongLength, StretchNotAllowed, TooWide}
 
 abbrev pub number-of : Fault → ℕ
+number-of (WrongSize memory) = 1
 number-of (NoCodeword word) = 3
 number-of SettingNotAllowed = 9
 number-of (WrongLength buffer) = 10
+number-of StretchNotAllowed = 13
 number-of TooWide = 14
+
+-- which of the memories of a reading call it is
+abbrev pub memory-number : Memory → ℕ
+memory-number Readings = 1
+memory-number Record = 2
+memory-number Totals = 3
+memory-number Numbers = 4
 
 -- which of a call's buffers it is
 abbrev pub buffer-number : Buffer → ℕ
@@ -22,9 +33,11 @@ buffer-number Frame = 1
 buffer-number Message = 2
 
 abbrev pub detail-of : Fault → ℕ
+detail-of (WrongSize memory) = memory-number memory
 detail-of (NoCodeword word) = word
 detail-of SettingNotAllowed = 0
 detail-of (WrongLength buffer) = buffer-number buffer
+detail-of StretchNotAllowed = 0
 detail-of TooWide = 0
 
 -- the answer of a call: its first refusal, or else the value

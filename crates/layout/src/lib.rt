@@ -6,6 +6,9 @@ use codes::interleave::Interleave;
 /// How many bytes a frame has.
 pub const FRAME_BYTES: usize = 120;
 
+/// How many dibits, and so how many readings, a frame has.
+pub const FRAME_PLACES: usize = 480;
+
 /// The five bytes that begin every frame.
 pub const SYNC_WORD: [u8; 5] = [0xD4, 0x71, 0xC9, 0x63, 0x4D];
 
