@@ -40,7 +40,7 @@ step g xs bs x b n long h =
     let same : (b + x) % 2 ≡ (x + b) % 2 = omega arith in
     ap (λ t. divided g n (cond (eqb t 0) (plus bs xs) (plus (plus bs xs) g))) same
     ∙ elim (eqb ((x + b) % 2) 0) as (λ t. divided g n (cond t (plus bs xs) (plus (plus bs xs) g)) ≡ divided g n (plus bs (cond t zs (plus zs g))))
-      [ true ↦ ap (divided g n) (sym low) | false ↦ ap (divided g n) (sym high) ]
+    [ true ↦ ap (divided g n) (sym low) | false ↦ ap (divided g n) (sym high) ]
 
 pub divided-fed : (g register ms : List ℕ) → length register ≡ length g → 0 < length g → Bits register → Bits ms
     → divided g (length ms) (plus (ms ++ replicate (length g) 0) register) ≡ fed g register ms
@@ -85,10 +85,11 @@ divided-low g [] (suc n) j h p = absurd (omega arith)
 divided-low g (b ∷ bs) (suc n) j h p =
     let zs : List ℕ = replicate j 0 in
     let sum : plus (bs ++ zs) (g ++ zs) ≡ plus bs g ++ zs =
-        plus-then-zeros (bs ++ zs) g j (bits-append bs zs (p .1) (bits-replicate j)) ∙ plus-before bs zs g (omega arith) in
-    elim (eqb b 0) as (λ t. divided (g ++ zs) n (cond t (bs ++ zs) (plus (bs ++ zs) (g ++ zs))) ≡ divided g n (cond t bs (plus bs g)) ++ zs)
-    [ true ↦ divided-low g bs n j (omega arith) (p .1)
-    | false ↦ ap (divided (g ++ zs) n) sum ∙ divided-low g (plus bs g) n j (omega (arith, length-plus bs g)) (bits-plus bs g (p .1)) ]
+    plus-then-zeros (bs ++ zs) g j (bits-append bs zs (p .1) (bits-replicate j)) ∙ plus-before bs zs g (omega arith) in
+    elim (eqb b 0) as (λ t. divided (g ++ zs) n (cond t (bs ++ zs) (plus (bs ++ zs) (g ++ zs))) ≡ divided g n (cond t bs (plus bs g)) ++ zs) [
+      | true ↦ divided-low g bs n j (omega arith) (p .1)
+      | false ↦ ap (divided (g ++ zs) n) sum ∙ divided-low g (plus bs g) n j (omega (arith, length-plus bs g)) (bits-plus bs g (p .1))
+    ]
 
 pub remainder-low : (g ms : List ℕ) (j : ℕ) → Bits ms → remainder (g ++ replicate j 0) ms ≡ remainder g ms ++ replicate j 0
 remainder-low g ms j h =
@@ -97,7 +98,7 @@ remainder-low g ms j h =
     let zs : List ℕ = replicate j 0 in
     let size : length (g ++ zs) ≡ w + j = length-append g zs ∙ ap (λ x. w + x) (length-replicate j 0) in
     let room : ms ++ replicate (length (g ++ zs)) 0 ≡ (ms ++ replicate w 0) ++ zs =
-        ap (λ x. ms ++ replicate x 0) size ∙ ap (λ l. ms ++ l) (sym (replicate-append-replicate w j 0)) ∙ sym (append-assoc ms (replicate w 0) zs) in
+    ap (λ x. ms ++ replicate x 0) size ∙ ap (λ l. ms ++ l) (sym (replicate-append-replicate w j 0)) ∙ sym (append-assoc ms (replicate w 0) zs) in
     ap (divided (g ++ zs) n) room
     ∙ divided-low g (ms ++ replicate w 0) n j (omega (arith, length-append ms (replicate w 0), length-replicate {A = ℕ} w 0)) (bits-append ms (replicate w 0) h (bits-replicate w))
 

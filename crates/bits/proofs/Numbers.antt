@@ -49,7 +49,7 @@ unfolding bits-of
 bits-of-low zero a r = refl
 bits-of-low (suc k) a r =
     let over : (a * 2 ^ suc k + r) / 2 ^ k ≡ a * 2 + r / 2 ^ k =
-        ap (λ x. (x + r) / 2 ^ k) (twice-pow a k) ∙ mul-add-div-right (pow-pos k) (a * 2) r in
+    ap (λ x. (x + r) / 2 ^ k) (twice-pow a k) ∙ mul-add-div-right (pow-pos k) (a * 2) r in
     let top : (a * 2 ^ suc k + r) / 2 ^ k % 2 ≡ r / 2 ^ k % 2 = omega arith in
     let rest : bits-of k (a * 2 ^ suc k + r) ≡ bits-of k r = ap (λ x. bits-of k (x + r)) (twice-pow a k) ∙ bits-of-low k (a * 2) r in
     cc
@@ -64,7 +64,7 @@ bits-of-cat zero k a r h = ap (λ w. bits-of w (a * 2 ^ k + r)) (zero-add k) ∙
 bits-of-cat (suc j) k a r h =
     let n = a * 2 ^ k + r in
     let top : n / 2 ^ (j + k) ≡ a / 2 ^ j =
-        ap (λ w. n / 2 ^ w) (add-comm j k) ∙ sym (shr-shr n k j) ∙ ap (λ x. x / 2 ^ j) (high a k h) in
+    ap (λ w. n / 2 ^ w) (add-comm j k) ∙ sym (shr-shr n k j) ∙ ap (λ x. x / 2 ^ j) (high a k h) in
     ap (λ w. bits-of w n) (suc-add j k)
     ∙ ap (λ x. x % 2 ∷ bits-of (j + k) n) top
     ∙ ap (λ l. a / 2 ^ j % 2 ∷ l) (bits-of-cat j k a r h)
@@ -184,8 +184,8 @@ bit-at-is bs i =
     ⊎-elim
     (λ l. sym (getD-byte-bits bs (i / 8) (i % 8) (omega arith) l) ∙ ap (λ k. getD (byte-bits bs) k 0) (omega arith))
     (λ l. ap (λ b. getD (bits-of 8 b) (i % 8) 0) (getD-past bs (i / 8) 0 l)
-        ∙ zero-bit (i % 8)
-        ∙ sym (getD-past (byte-bits bs) i 0 (omega (arith, length-byte-bits bs))))
+    ∙ zero-bit (i % 8)
+    ∙ sym (getD-past (byte-bits bs) i 0 (omega (arith, length-byte-bits bs))))
     (cases-lt (i / 8) (length bs))
 
 -- ---- groups of bits

@@ -119,6 +119,6 @@ unfolding bits-of plus
 bits-of-xor zero a b = refl
 bits-of-xor (suc k) a b =
     let top : bitXor a b / 2 ^ k % 2 ≡ (a / 2 ^ k % 2) ⊕ (b / 2 ^ k % 2) =
-        ap (λ x. x % 2) (xor-shr a b k) ∙ bit-xor (a / 2 ^ k) (b / 2 ^ k) in
+    ap (λ x. x % 2) (xor-shr a b k) ∙ bit-xor (a / 2 ^ k) (b / 2 ^ k) in
     let rest = bits-of-xor k a b in
     cc

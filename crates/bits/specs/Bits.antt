@@ -4,7 +4,6 @@ use Prim.Native.Nat.{ℕ, zero, suc, _+_, _*_, _/_, _%_, _^_, _<_}
 use lib.ListN.{getD, take, drop}
 
 infixl 20 _⊕_
-
 -- the sum of two bits
 abbrev pub _⊕_ : ℕ → ℕ → ℕ
 a ⊕ b = (a + b) % 2

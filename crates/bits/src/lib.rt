@@ -73,7 +73,11 @@ fn fed_back(register: u16, top: bool, bit: bool, taps: u16) -> u16
     requires { ⌜ top ≡ leb 0x8000 register ⌝ }
     ensures { λ r. ⌜ bits-of 16 r ≡ shifted (bits-of 16 taps) (bits-of 16 register) (cond bit 1 0) ⌝ }
 {
-    if top != bit { (register << 1) ^ taps } else { register << 1 }
+    if top != bit {
+        (register << 1) ^ taps
+    } else {
+        register << 1
+    }
 }
 
 /// A register of sixteen bits that divides by x^16 and the powers in `taps`, one bit on.

@@ -13,11 +13,11 @@ returns-then-top-bit c =
     let twice = c .args .register * 2 % 65536 in
     bits-of-xor 16 twice (c .args .taps)
     ∙ sym (shifted-number g (c .args .register) (c .args .top) (c .args .bit) (omega arith) (c .pre)
-        ∙ ap (λ t. cond t (plus (bits-of 16 twice) g) (bits-of 16 twice)) (c .if-top-bit .taken))
+    ∙ ap (λ t. cond t (plus (bits-of 16 twice) g) (bits-of 16 twice)) (c .if-top-bit .taken))
 
 pub returns-else-top-bit : need.returns-else-top-bit
 returns-else-top-bit c =
     let g = bits-of 16 (c .args .taps) in
     let twice = c .args .register * 2 % 65536 in
     sym (shifted-number g (c .args .register) (c .args .top) (c .args .bit) (omega arith) (c .pre)
-        ∙ ap (λ t. cond t (plus (bits-of 16 twice) g) (bits-of 16 twice)) (c .if-top-bit .left))
+    ∙ ap (λ t. cond t (plus (bits-of 16 twice) g) (bits-of 16 twice)) (c .if-top-bit .left))
