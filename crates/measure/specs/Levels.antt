@@ -22,7 +22,7 @@ level-difference reading d = natAbs (reading -ℤ nominal-level d)
 abbrev pub levels-extended : ℕ → ℤ → Dibit → ℕ
 levels-extended total reading d = min (2 ^ 64 - 1) (total + level-difference reading d * level-difference reading d)
 
--- 01 from 2000 up, 00 from 0 to 1999, 10 from -1999 to -1, 11 below
+-- the dibit whose nominal level is nearest; 2000 goes to the outer one, -2000 too, and 0 to the positive
 abbrev pub levels-plain : ℤ → Dibit
 levels-plain reading =
     cond (leZ (pos 2000) reading) D01

@@ -19,7 +19,7 @@ abbrev pub No-worse : {S R T : Type 0} → Meaning S R T → S → T → T → T
 No-worse μ m p q = μ .better m q p ≡ false
 
 pub record Lawful {S R T : Type 0} (μ : Meaning S R T) : Type 0 where
-  -- no two totals are each better than the other, and none is better than itself
+  -- of two totals at most one is better, and a total is never better than itself
   pub apart : (m : S) (p q : T) → μ .better m p q ≡ true → μ .better m q p ≡ false
   pub itself : (m : S) (p : T) → μ .better m p p ≡ false
   -- no worse is transitive

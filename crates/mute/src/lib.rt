@@ -1,12 +1,12 @@
 //! A measure over another, under which the readings of some stretches of places count for nothing.
 ghost use Prim.Native.Nat.{_+_, _<_, _≤_};
 ghost use lib.ListN.{take};
-ghost use mathlib.Core.Bool.{_||_};
-ghost use mathlib.Core.Path.{_≡_};
 ghost use mathlib.Core.List.{[]};
-ghost use Rattle.std.specs.declared.option.Option.the-variants.{None};
+ghost use mathlib.Core.Path.{_≡_};
 ghost use Rattle.fault.specs.Faults.{refused-or, unless};
 ghost use Rattle.mute.specs.Mutes.{mute-means, inside, covered, stretches, hidden, unmuted, added, add-fault, Grown};
+ghost use Rattle.std.specs.declared.option.Option.the-variants.{None};
+ghost use mathlib.Core.Bool.{_||_};
 use bits::Dibit;
 use fault::Fault;
 use measure::Measure;
