@@ -1,0 +1,5 @@
+pub mod Cases
+pub mod Apart
+pub mod Flips
+pub mod Levels
+pub mod Recovering
