@@ -1,6 +1,6 @@
 -- Two words differ in at least seven coded bits. From the first input in which they differ, the bits that must still
 -- differ until both coders rest are at least a number that depends on how their last four inputs differ.
-use mathlib.Core.Path.{_≡_, refl, sym, ap, subst, _∙_}
+use mathlib.Core.Path.{_≡_, refl, ap, subst, _∙_}
 use mathlib.Core.Logic.{⊎-elim}
 use mathlib.Core.Bool.{Bool}
 use mathlib.Core.List.{List, [], _∷_, _++_}

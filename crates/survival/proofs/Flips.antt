@@ -1,8 +1,8 @@
 -- Marks: the total of a word is the number of flips against it, and few flips and unreadable bits leave the word sent the best.
-use mathlib.Core.Path.{_≡_, refl, sym, ap, subst, _∙_}
+use mathlib.Core.Path.{_≡_, refl, sym, ap, _∙_}
 use mathlib.Core.Bool.{Bool, true, false, cond}
 use mathlib.Core.List.{List, [], _∷_, _++_, map}
-use Prim.Native.Nat.{ℕ, _+_, _*_, _/_, _%_, _<_, _≤_, min}
+use Prim.Native.Nat.{ℕ, _+_, _*_, _<_, _≤_, min}
 use native.Mathlib.Omega.{arith}
 use lib.Dec.{T, leb, ltb, eqb, leb→le, eqb→eq}
 use lib.ListN.{length, getD, drop, length-append}
@@ -16,7 +16,7 @@ use Rattle.measure.specs.Marks.{first-lost, second-lost, first-read, second-rea
 use Rattle.measure.specs.Muting.{Muted-marks}
 use Rattle.trellis.specs.Words.{Heard, weighed, word-total, Word, Decisive}
 use Rattle.survival.specs.Distance.{unlike, apart, differing}
-use Rattle.survival.specs.Damage.{flips, unreadable}
+use Rattle.survival.specs.Damage.{flips-at, unreadable-at, flips, unreadable}
 use Rattle.survival.proofs.Cases.{each-bits, at-bits, at-dibit}
 use Rattle.survival.proofs.Apart.{seven}
 
@@ -47,17 +47,24 @@ dibit-noticed r d e =
     let two = bit-noticed (second-lost r) (second-read r) (second d) (second e) (omega arith) (omega arith) (second-below d) (second-below e) in
     omega arith
 
-own-misses : (d : Dibit) → misses (value-of d) d ≡ 0
-own-misses d = eqb→eq _ _ (at-dibit (λ e. eqb (misses (value-of e) e) 0) d tt)
-
-own-unread : (d : Dibit) → first-lost (value-of d) + second-lost (value-of d) ≡ 0
-own-unread d = eqb→eq _ _ (at-dibit (λ e. eqb (first-lost (value-of e) + second-lost (value-of e)) 0) d tt)
+-- a dibit as its own reading
+own-reading : (d : Dibit) → misses (value-of d) d + (first-lost (value-of d) + second-lost (value-of d)) ≡ 0
+own-reading d =
+    eqb→eq _ _ (at-dibit (λ e. eqb (misses (value-of e) e + (first-lost (value-of e) + second-lost (value-of e))) 0) d tt)
 
 -- the reading of which neither bit can be read
 abbrev lost : ℕ
 lost = 12
 
 module _ (muted : ℕ → Bool) where
+  here-noticed : (y : Heard ℕ) (d e : Dibit) → apart d e ≤ flips-at muted y d + flips-at muted y e + unreadable-at muted y
+  here-noticed y d e =
+      let r = y .reading in
+      elim (muted (y .place)) as (λ b. apart d e ≤ cond b 0 (misses r d) + cond b 0 (misses r e) + cond b 2 (first-lost r + second-lost r)) [
+        | true ↦ dibit-noticed lost d e
+        | false ↦ dibit-noticed r d e
+      ]
+
   -- where two lists of dibits differ, a bit is flipped against one of them, or cannot be read
   differing-noticed : (ys : List (Heard ℕ)) (ds es : List Dibit) → length ds ≤ length ys
       → differing ds es ≤ flips muted ys ds + flips muted ys es + unreadable muted ys
@@ -65,13 +72,13 @@ module _ (muted : ℕ → Bool) where
   differing-noticed ys [] es h = omega arith
   differing-noticed [] (d ∷ ds) es h = absurd (omega arith)
   differing-noticed (y ∷ ys) (d ∷ ds) [] h = omega arith
-  differing-noticed (y ∷ ys) (d ∷ ds) (e ∷ es) h =
-      let r = y .reading in
-      let later = differing-noticed ys ds es (omega arith) in
-      elim (muted (y .place)) as (λ b. apart d e + differing ds es ≤ (cond b 0 (misses r d) + flips muted ys ds) + (cond b 0 (misses r e) + flips muted ys es) + (cond b 2 (first-lost r + second-lost r) + unreadable muted ys)) [
-        | true ↦ omega (arith, dibit-noticed lost d e)
-        | false ↦ omega (arith, dibit-noticed r d e)
-      ]
+  differing-noticed (y ∷ ys) (d ∷ ds) (e ∷ es) h = omega (arith, here-noticed y d e, differing-noticed ys ds es (omega arith))
+
+  here-unharmed : (y : Heard ℕ) (d : Dibit) → muted (y .place) ≡ false → y .reading ≡ value-of d → flips-at muted y d + unreadable-at muted y ≡ 0
+  here-unharmed y d quiet e =
+      ap (λ b. cond b 0 (misses (y .reading) d) + cond b 2 (first-lost (y .reading) + second-lost (y .reading))) quiet
+      ∙ ap (λ r. misses r d + (first-lost r + second-lost r)) e
+      ∙ own-reading d
 
   -- each reading the dibit itself: no flip, and nothing unreadable
   pub unharmed : (ys : List (Heard ℕ)) (ds : List Dibit) → ((place : ℕ) → muted place ≡ false) → map (λ y. y .reading) ys ≡ map value-of ds
@@ -80,12 +87,7 @@ module _ (muted : ℕ → Bool) where
   unharmed [] ds quiet e = refl
   unharmed (y ∷ ys) [] quiet e = absurd (let z = ap length e in omega arith)
   unharmed (y ∷ ys) (d ∷ ds) quiet e =
-      let later = unharmed ys ds quiet (ap (drop 1) e) in
-      ap (λ b. 2 * (cond b 0 (misses (y .reading) d) + flips muted ys ds) + (cond b 2 (first-lost (y .reading) + second-lost (y .reading)) + unreadable muted ys)) (quiet (y .place))
-      ∙ ap (λ r. 2 * (misses r d + flips muted ys ds) + (first-lost r + second-lost r + unreadable muted ys)) (ap (λ l. getD l 0 0) e)
-      ∙ ap (λ k. 2 * (misses (value-of d) d + flips muted ys ds) + (k + unreadable muted ys)) (own-unread d)
-      ∙ ap (λ k. 2 * (k + flips muted ys ds) + (0 + unreadable muted ys)) (own-misses d)
-      ∙ omega arith
+      omega (arith, here-unharmed y d (quiet (y .place)) (ap (λ l. getD l 0 0) e), unharmed ys ds quiet (ap (drop 1) e))
 
 module _ {S : Type 0} (μ : Meaning S ℕ ℕ) (muted : S → ℕ → Bool) (tied : Muted-marks μ muted) (m : S) where
   -- a total is the number of flips, at most 65535
@@ -111,7 +113,8 @@ module _ {S : Type 0} (μ : Meaning S ℕ ℕ) (muted : S → ℕ → Bool) (tie
   marks-decisive n ys sent long word few other h ne =
       let a = word-total μ m ys sent in
       let b = word-total μ m ys other in
-      let size : length (coded sent) ≡ n + 4 = length-coded-after [] (sent ++ 0 ∷ 0 ∷ 0 ∷ 0 ∷ []) ∙ length-append sent (0 ∷ 0 ∷ 0 ∷ 0 ∷ []) ∙ ap (λ k. k + 4) (word .long) in
+      let size : length (coded sent) ≡ n + 4 =
+      length-coded-after [] (sent ++ 0 ∷ 0 ∷ 0 ∷ 0 ∷ []) ∙ length-append sent (0 ∷ 0 ∷ 0 ∷ 0 ∷ []) ∙ ap (λ k. k + 4) (word .long) in
       let far = seven sent other (word .bits) (h .bits) (omega (arith, word .long, h .long)) (λ e. ne (sym e)) in
       let near = differing-noticed (muted m) ys (coded sent) (coded other) (omega arith) in
       let less : a < b = omega (arith, word-flips ys sent, word-flips ys other) in

@@ -2,7 +2,7 @@
 use mathlib.Core.Path.{_≡_, refl, sym, ap, subst, _∙_}
 use mathlib.Core.Bool.{Bool}
 use mathlib.Core.List.{List, [], _∷_, map}
-use Prim.Native.Nat.{ℕ, _+_, _-_, _*_, _^_, _<_, _≤_, min}
+use Prim.Native.Nat.{ℕ, _+_, _-_, _*_, _^_, _≤_, min}
 use native.Mathlib.Omega.{arith}
 use lib.Dec.{leb, eqb, leb→le, eqb→eq}
 use lib.IntN.{ℤ, pos}
@@ -12,7 +12,7 @@ use Rattle.bits.specs.declared.Dibit.{Dibit}
 use Rattle.codes.specs.Convolution.{coded}
 use Rattle.measure.specs.declared.levels.Levels.{Levels}
 use Rattle.measure.specs.Levels.{nominal-level, level-difference, levels-extended, levels-means}
-use Rattle.trellis.specs.Words.{Heard, weighed, word-total, Word, Decisive}
+use Rattle.trellis.specs.Words.{Heard, weighed, Word, Decisive}
 use Rattle.survival.specs.Distance.{apart, differing}
 use Rattle.survival.proofs.Cases.{each-dibit, at-dibit}
 use Rattle.survival.proofs.Apart.{seven}

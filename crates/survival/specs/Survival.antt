@@ -14,7 +14,7 @@ use Rattle.fault.specs.declared.Fault.{Fault}
 use Rattle.layout.specs.declared.Block.{Block}
 use Rattle.measure.specs.Levels.{nominal-level}
 use Rattle.trellis.specs.declared.search.Found.{Found}
-use Rattle.trellis.specs.Words.{Heard, heard, free-inputs, Word}
+use Rattle.trellis.specs.Words.{heard, free-inputs, Word}
 use Rattle.trellis.specs.Answers.{word-inputs}
 use Rattle.survival.specs.Damage.{flips, unreadable}
 

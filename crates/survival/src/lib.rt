@@ -1,5 +1,4 @@
-//! How much damage to a block its word survives.
-ghost use Prim.Native.Nat.{ℕ};
+//! The word of a block, and how much damage to the block it survives.
 ghost use lib.ListN.{length};
 ghost use Rattle.measure.specs.Levels.{levels-means};
 ghost use Rattle.trellis.specs.Answers.{size-fault, Searched};
@@ -16,6 +15,7 @@ use trellis::search::search;
 #[cfg(test)]
 mod tests;
 
+// What the search finds of marks, and how much damage it bears.
 fn search_marks<M: MutedMarks>(
     m: &M,
     block: Block,
@@ -47,6 +47,7 @@ pub fn read_marks<M: MutedMarks>(
     search_marks(m, block, readings, totals, numbers)
 }
 
+// The same of levels.
 fn search_levels(
     block: Block,
     readings: &[i16],

@@ -110,9 +110,9 @@ module _ {S R T : Type 0} (μ : Meaning S R T) (m : S) where
         ap (λ t. μ .better m t (word-total μ m ys word)) (total-of-word other h)
         ∙ ap (μ .better m (total-of μ m (reverse ys) us)) (sym own-total)
         ∙ it .least us
-          (bits-reverse (other ++ rest) [] (bits-append other rest (h .bits) (omega arith, (omega arith, (omega arith, (omega arith, tt))))) tt)
-          (length-reverse (other ++ rest) ∙ length-append other rest ∙ omega (arith, h .long, length-reverse ys))
-          (ends-at-rest other)
+        (bits-reverse (other ++ rest) [] (bits-append other rest (h .bits) (omega arith, (omega arith, (omega arith, (omega arith, tt))))) tt)
+        (length-reverse (other ++ rest) ∙ length-append other rest ∙ omega (arith, h .long, length-reverse ys))
+        (ends-at-rest other)
 
     pub decisive : (sent : List ℕ) → Word n sent → Decisive μ m n ys sent → word ≡ sent
     decisive sent h better =

@@ -48,7 +48,7 @@ module _ {S R T : Type 0} (μ : Meaning S R T) (m : S) (y : Heard R) (old : List
 
   pub four-ways : (j : ℕ) (low high : T) (d e : Dibit) → j < 8 → low ≡ at-bank μ m old j → high ≡ at-bank μ m old (j + 8) → d ≡ output j 0 → e ≡ turned d
       → Four-ways j (μ .extend m low (y .place) (y .reading) d) (μ .extend m high (y .place) (y .reading) e)
-        (μ .extend m low (y .place) (y .reading) e) (μ .extend m high (y .place) (y .reading) d)
+      (μ .extend m low (y .place) (y .reading) e) (μ .extend m high (y .place) (y .reading) d)
   four-ways j low high d e h el eh ed ee =
       let o = outputs j h in
       let turn : e ≡ turned (output j 0) = ee ∙ ap turned ed in
@@ -63,11 +63,12 @@ module _ {S R T : Type 0} (μ : Meaning S R T) (m : S) (y : Heard R) (old : List
       → (cond (μ .better m one-way zero-way) one-way zero-way ≡ winner μ m y old s) × (μ .better m one-way zero-way ≡ one-wins μ m y old s)
   winner-is s zero-way one-way e0 e1 =
       let wins : μ .better m one-way zero-way ≡ one-wins μ m y old s =
-          ap (λ x. μ .better m x zero-way) e1 ∙ ap (λ x. μ .better m (via μ m y old 1 s) x) e0 in
-      (ap (λ b. cond b one-way zero-way) wins
-      ∙ ap (λ x. cond (one-wins μ m y old s) x zero-way) e1
-      ∙ ap (λ x. cond (one-wins μ m y old s) (via μ m y old 1 s) x) e0,
-      wins)
+      ap (λ x. μ .better m x zero-way) e1 ∙ ap (λ x. μ .better m (via μ m y old 1 s) x) e0 in (
+        ap (λ b. cond b one-way zero-way) wins
+            ∙ ap (λ x. cond (one-wins μ m y old s) x zero-way) e1
+            ∙ ap (λ x. cond (one-wins μ m y old s) (via μ m y old 1 s) x) e0,
+        wins,
+      )
 
 flags : (p q : Bool) → boolByte p + 2 * boolByte q ≡ cond p 1 0 + cond q 2 0
 flags true true = refl
@@ -113,10 +114,10 @@ decisions-more f j word ones h ew eo =
     let whole : ones * 2 ^ (2 * j) % 65536 ≡ ones * 2 ^ (2 * j) = shl-whole ones 2 (2 * j) 16 small (omega arith) in
     let next : 2 * (j + 1) ≡ 2 * j + 2 = omega arith in
     let made : word + ones * 2 ^ (2 * j) % 65536 ≡ packed f (2 * (j + 1)) =
-        ap (λ x. word + x) whole
-        ∙ ap (λ x. x + ones * 2 ^ (2 * j)) ew
-        ∙ ap (λ x. packed f (2 * j) + x * 2 ^ (2 * j)) eo
-        ∙ sym (ap (packed f) next ∙ packed-two f (2 * j)) in
+    ap (λ x. word + x) whole
+    ∙ ap (λ x. x + ones * 2 ^ (2 * j)) ew
+    ∙ ap (λ x. packed f (2 * j) + x * 2 ^ (2 * j)) eo
+    ∙ sym (ap (packed f) next ∙ packed-two f (2 * j)) in
     let room : 2 ^ (2 * (j + 1)) ≤ 2 ^ 16 = pow-mono {i = 2 * (j + 1)} {j = 16} (omega arith) in
     (made, omega (arith, made, packed-below f (2 * (j + 1)), room))
 
@@ -128,5 +129,5 @@ pub two-more : {T : Type 0} (bank one two : List T) (n : ℕ) (a b d : T) (f : �
 two-more bank one two n a b d f room eo et ea eb so-far s h =
     let long : length one ≡ length bank = ap length eo ∙ length-set bank n a in
     let first : (k : ℕ) → k < n + 1 → getD one k d ≡ f k =
-        λ k l. ap (λ t. getD t k d) (eo ∙ ap (set bank n) ea) ∙ fill-by-more f bank n d (omega arith) so-far k l in
+    λ k l. ap (λ t. getD t k d) (eo ∙ ap (set bank n) ea) ∙ fill-by-more f bank n d (omega arith) so-far k l in
     ap (λ t. getD t s d) (et ∙ ap (set one (n + 1)) eb) ∙ fill-by-more f one (n + 1) d (omega arith) first s (omega arith)

@@ -30,19 +30,19 @@ unpacked f (suc n) s h =
     let whole : p + cond (f n) (2 ^ n) 0 ≡ c * 2 ^ n + p = omega (arith, scaled (f n) (2 ^ n) .0) in
     ⊎-elim
     (λ below.
-        let j = n - suc s in
-        let place : 2 ^ n ≡ 2 ^ j * 2 * 2 ^ s =
-            ap (λ k. 2 ^ k) (omega arith) ∙ pow-add 2 (suc j) s ∙ ap (λ x. x * 2 ^ s) (pow-suc 2 j) in
-        let split : c * 2 ^ n + p ≡ c * 2 ^ j * 2 * 2 ^ s + p =
-            ap (λ x. c * x + p) place ∙ ap (λ x. x + p) (sym (mul-assoc c (2 ^ j * 2) (2 ^ s)) ∙ ap (λ x. x * 2 ^ s) (sym (mul-assoc c (2 ^ j) 2))) in
-        let down : (p + cond (f n) (2 ^ n) 0) / 2 ^ s ≡ c * 2 ^ j * 2 + p / 2 ^ s =
-            ap (λ x. x / 2 ^ s) (whole ∙ split) ∙ mul-add-div-right (pow-pos s) (c * 2 ^ j * 2) p in
-        omega (arith, down, unpacked f n s below))
+    let j = n - suc s in
+    let place : 2 ^ n ≡ 2 ^ j * 2 * 2 ^ s =
+    ap (λ k. 2 ^ k) (omega arith) ∙ pow-add 2 (suc j) s ∙ ap (λ x. x * 2 ^ s) (pow-suc 2 j) in
+    let split : c * 2 ^ n + p ≡ c * 2 ^ j * 2 * 2 ^ s + p =
+    ap (λ x. c * x + p) place ∙ ap (λ x. x + p) (sym (mul-assoc c (2 ^ j * 2) (2 ^ s)) ∙ ap (λ x. x * 2 ^ s) (sym (mul-assoc c (2 ^ j) 2))) in
+    let down : (p + cond (f n) (2 ^ n) 0) / 2 ^ s ≡ c * 2 ^ j * 2 + p / 2 ^ s =
+    ap (λ x. x / 2 ^ s) (whole ∙ split) ∙ mul-add-div-right (pow-pos s) (c * 2 ^ j * 2) p in
+    omega (arith, down, unpacked f n s below))
     (λ last.
-        let same : s ≡ n = omega arith in
-        ap (λ k. (p + cond (f n) (2 ^ n) 0) / 2 ^ k % 2) same
-        ∙ ap (λ x. x / 2 ^ n % 2) whole
-        ∙ ap (λ x. x % 2) (high c n (packed-below f n))
-        ∙ omega (arith, scaled (f n) (2 ^ n) .1)
-        ∙ ap (λ k. cond (f k) 1 0) (sym same))
+    let same : s ≡ n = omega arith in
+    ap (λ k. (p + cond (f n) (2 ^ n) 0) / 2 ^ k % 2) same
+    ∙ ap (λ x. x / 2 ^ n % 2) whole
+    ∙ ap (λ x. x % 2) (high c n (packed-below f n))
+    ∙ omega (arith, scaled (f n) (2 ^ n) .1)
+    ∙ ap (λ k. cond (f k) 1 0) (sym same))
     (cases-lt s n)

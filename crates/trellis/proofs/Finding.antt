@@ -55,14 +55,15 @@ held-inputs b path bytes h long e =
     let nk : 8 * k ≡ n = ap (λ x. 8 * (x / 8)) long ∙ s .0 in
     let kk : k ≡ n / 8 = ap (λ x. x / 8) long ∙ s .1 in
     let front : byte-bits (numbers-of 8 k path) ≡ take n path = byte-bits-numbers k path (omega (arith, s .2)) h ∙ ap (λ x. take x path) nk in
-    let full : length (take n path) ≡ n = length-take-le n path (omega (arith, s .2)) in
-    (ap (λ l. take n (byte-bits l)) e
-    ∙ ap (take n) (byte-bits-append (numbers-of 8 k path) zs)
-    ∙ ap (λ l. take n (l ++ byte-bits zs)) front
-    ∙ take-at (take n path) (byte-bits zs) n full,
-    ap (drop (n / 8)) e
-    ∙ drop-at (numbers-of 8 k path) zs (n / 8) (length-numbers-of 8 k path ∙ kk)
-    ∙ ap (λ x. replicate (22 - x) 0) kk)
+    let full : length (take n path) ≡ n = length-take-le n path (omega (arith, s .2)) in (
+      ap (λ l. take n (byte-bits l)) e
+          ∙ ap (take n) (byte-bits-append (numbers-of 8 k path) zs)
+          ∙ ap (λ l. take n (l ++ byte-bits zs)) front
+          ∙ take-at (take n path) (byte-bits zs) n full,
+      ap (drop (n / 8)) e
+          ∙ drop-at (numbers-of 8 k path) zs (n / 8) (length-numbers-of 8 k path ∙ kk)
+          ∙ ap (λ x. replicate (22 - x) 0) kk,
+    )
 
 module _ {S R T : Type 0} (μ : Meaning S R T) (m : S) (law : Lawful μ) (b : Block) (readings : List R) (bank : List T) (ds path bytes : List ℕ) (total : T) where
   pub found : length readings ≡ 480 → length ds ≡ length-of b → Holds μ m (reverse (heard b readings)) bank (reverse ds)
@@ -84,7 +85,7 @@ module _ {S R T : Type 0} (μ : Meaning S R T) (m : S) (law : Lawful μ) (b : Bl
         exact =
             e
             ∙ ap (λ us. Some record { inputs = us; total = at-bank μ m bank 0 })
-              (inputs-are μ m law n ys heard-size p e ∙ ap (λ w. reverse (w ++ 0 ∷ 0 ∷ 0 ∷ 0 ∷ [])) (sym same))
+            (inputs-are μ m law n ys heard-size p e ∙ ap (λ w. reverse (w ++ 0 ∷ 0 ∷ 0 ∷ 0 ∷ [])) (sym same))
             ∙ ap (λ t. Some record { inputs = reverse (word-inputs b bytes ++ 0 ∷ 0 ∷ 0 ∷ 0 ∷ []); total = t }) (sym et);
         blank = inputs .1;
         word = subst (Word n) (sym same) (word-sound μ m law n ys heard-size p e);

@@ -105,11 +105,11 @@ module _ {S R T : Type 0} (μ : Meaning S R T) (m : S) where
         let s = (2 * σ + u) % 16 in
         let t = total-of (y ∷ ys) (u ∷ us) in
         let here : Covers (longer μ m y σ u (best μ m ys σ)) t =
-            covers-longer y σ u (best μ m ys σ) (total-of ys us) (best-covers ys us (h .1) (omega arith)) in
+        covers-longer y σ u (best μ m ys σ) (total-of ys us) (best-covers ys us (h .1) (omega arith)) in
         let from : (x : ℕ) → x ≡ σ → Covers (longer μ m y x (s % 2) (best μ m ys x)) t =
-            λ x is.
-            subst (λ x. Covers (longer μ m y x (s % 2) (best μ m ys x)) t) (sym is)
-            (subst (λ v. Covers (longer μ m y σ v (best μ m ys σ)) t) (sym (last-input σ u (h .0))) here) in
+        λ x is.
+        subst (λ x. Covers (longer μ m y x (s % 2) (best μ m ys x)) t) (sym is)
+        (subst (λ v. Covers (longer μ m y σ v (best μ m ys σ)) t) (sym (last-input σ u (h .0))) here) in
         ⊎-elim
         (λ is. covers-first _ _ t (from (earlier-state 0 s) is))
         (λ is. covers-second _ _ t (from (earlier-state 1 s) is))

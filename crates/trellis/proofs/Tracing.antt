@@ -30,7 +30,7 @@ trace-more ds all t s some room inv =
     let e : t ≡ k + 1 = omega arith in
     let before = traced (reverse (take k ds)) (earlier-state (d / 2 ^ s % 2) s) in
     let newest : reverse (take t ds) ≡ d ∷ reverse (take k ds) =
-        ap (λ n. reverse (take n ds)) e ∙ ap reverse (take-more ds k 0 (omega arith)) ∙ reverse-push (take k ds) d in
+    ap (λ n. reverse (take n ds)) e ∙ ap reverse (take-more ds k 0 (omega arith)) ∙ reverse-push (take k ds) d in
     ap (λ l. reverse (traced (reverse l) (s / 2 + 8 * (d / 2 ^ s % 2))) ++ drop k (set ds k (s % 2))) (take-set-le k ds k (s % 2) (omega arith))
     ∙ ap (λ l. reverse before ++ l) (drop-set ds k (s % 2) (omega arith))
     ∙ sym (append-assoc (reverse before) (s % 2 ∷ []) (drop (k + 1) ds))

@@ -28,7 +28,14 @@ pub struct Found<T> {
 }
 
 /// Weighs all readings of a block, two at a time between the two banks.
-fn weigh<M: Measure>(m: &M, block: Block, readings: &[M::Reading], even: &mut [M::Total], odd: &mut [M::Total], decisions: &mut [u16])
+fn weigh<M: Measure>(
+    m: &M,
+    block: Block,
+    readings: &[M::Reading],
+    even: &mut [M::Total],
+    odd: &mut [M::Total],
+    decisions: &mut [u16],
+)
     requires { ⌜ length (now readings) ≡ 480 ⌝ ∗ ⌜ length (now even) ≡ 16 ⌝ ∗ ⌜ length (now odd) ≡ 16 ⌝ ∗ ⌜ length (now decisions) ≡ length-of block ⌝ }
     ensures { λ _. ⌜ Holds means (now (m .entry)) (reverse (heard block (now (readings .entry)))) (now (even .exit)) (reverse (now (decisions .exit))) ⌝ }
 {
@@ -79,14 +86,23 @@ fn word_of(bits: &[u16]) -> [u8; WORD_BYTES]
     word
 }
 
-fn find<M: Measure>(m: &M, block: Block, readings: &[M::Reading], totals: &mut [M::Total], decisions: &mut [u16]) -> Found<M::Total>
+fn find<M: Measure>(
+    m: &M,
+    block: Block,
+    readings: &[M::Reading],
+    totals: &mut [M::Total],
+    decisions: &mut [u16],
+) -> Found<M::Total>
     requires { ⌜ length (now readings) ≡ 480 ⌝ ∗ ⌜ length (now totals) ≡ 32 ⌝ ∗ ⌜ length (now decisions) ≡ length-of block ⌝ }
     ensures { λ r. ⌜ Answers means (now (m .entry)) block (now (readings .entry)) r ⌝ }
 {
     let (even, odd) = totals.split_at_mut(16);
     weigh(m, block, readings, even, odd, decisions);
     trace(decisions);
-    Found { word: word_of(decisions), total: even[0] }
+    Found {
+        word: word_of(decisions),
+        total: even[0],
+    }
 }
 
 fn check_sizes(readings: usize, totals: usize, numbers: usize) -> Result<(), Fault>
@@ -105,7 +121,13 @@ fn check_sizes(readings: usize, totals: usize, numbers: usize) -> Result<(), Fau
 }
 
 /// The word that fits the readings of a block best. Totals and numbers are work memory.
-pub fn search<M: Measure>(m: &M, block: Block, readings: &[M::Reading], totals: &mut [M::Total], numbers: &mut [u16]) -> Result<Found<M::Total>, Fault>
+pub fn search<M: Measure>(
+    m: &M,
+    block: Block,
+    readings: &[M::Reading],
+    totals: &mut [M::Total],
+    numbers: &mut [u16],
+) -> Result<Found<M::Total>, Fault>
     ensures { λ r. ⌜ Searched means (now (m .entry)) block (now (readings .entry)) (size-fault (length (now (readings .entry))) (length (now (totals .entry))) (length (now (numbers .entry)))) r ⌝ }
 {
     check_sizes(readings.len(), totals.len(), numbers.len())?;

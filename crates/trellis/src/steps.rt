@@ -19,7 +19,16 @@ struct Pair<T> {
 }
 
 /// The dibits of input 0 in the states 0 to 7. Input 1 turns both bits, and so does the oldest bit of a state.
-const OUTPUTS: [Dibit; 8] = [Dibit::D00, Dibit::D01, Dibit::D01, Dibit::D00, Dibit::D10, Dibit::D11, Dibit::D11, Dibit::D10];
+const OUTPUTS: [Dibit; 8] = [
+    Dibit::D00,
+    Dibit::D01,
+    Dibit::D01,
+    Dibit::D00,
+    Dibit::D10,
+    Dibit::D11,
+    Dibit::D11,
+    Dibit::D10,
+];
 
 fn output_of(state: usize) -> Dibit
     requires { ⌜ state < 8 ⌝ }
@@ -47,7 +56,13 @@ fn pick<M: Measure>(m: &M, zero: M::Total, one: M::Total) -> (M::Total, bool)
 }
 
 /// The two states that states `j` and `j + 8` lead to.
-fn butterfly<M: Measure>(m: &M, place: usize, reading: &M::Reading, old: &[M::Total], j: usize) -> Pair<M::Total>
+fn butterfly<M: Measure>(
+    m: &M,
+    place: usize,
+    reading: &M::Reading,
+    old: &[M::Total],
+    j: usize,
+) -> Pair<M::Total>
     requires { ⌜ j < 8 ⌝ ∗ ⌜ length (now old) ≡ 16 ⌝ }
     ensures even { λ r. ⌜ r .even ≡ winner means (now (m .entry)) (hears place (now (reading .entry))) (now (old .entry)) (2 * j) ⌝ }
     ensures odd { λ r. ⌜ r .odd ≡ winner means (now (m .entry)) (hears place (now (reading .entry))) (now (old .entry)) (2 * j + 1) ⌝ }
@@ -57,9 +72,21 @@ fn butterfly<M: Measure>(m: &M, place: usize, reading: &M::Reading, old: &[M::To
     let high = old[j + 8];
     let plain = output_of(j);
     let turned = turned_over(plain);
-    let (even, a) = pick(m, m.extend(low, place, reading, plain), m.extend(high, place, reading, turned));
-    let (odd, b) = pick(m, m.extend(low, place, reading, turned), m.extend(high, place, reading, plain));
-    Pair { even, odd, ones: u16::from(a) + 2 * u16::from(b) }
+    let (even, a) = pick(
+        m,
+        m.extend(low, place, reading, plain),
+        m.extend(high, place, reading, turned),
+    );
+    let (odd, b) = pick(
+        m,
+        m.extend(low, place, reading, turned),
+        m.extend(high, place, reading, plain),
+    );
+    Pair {
+        even,
+        odd,
+        ones: u16::from(a) + 2 * u16::from(b),
+    }
 }
 
 pub(crate) fn store<T: Copy>(bank: &mut [T], state: usize, total: T)
@@ -70,7 +97,13 @@ pub(crate) fn store<T: Copy>(bank: &mut [T], state: usize, total: T)
 }
 
 /// The totals of all sixteen states one reading further, and which ways won.
-fn advance<M: Measure>(m: &M, place: usize, reading: &M::Reading, old: &[M::Total], new: &mut [M::Total]) -> u16
+fn advance<M: Measure>(
+    m: &M,
+    place: usize,
+    reading: &M::Reading,
+    old: &[M::Total],
+    new: &mut [M::Total],
+) -> u16
     requires { ⌜ length (now old) ≡ 16 ⌝ ∗ ⌜ length (now new) ≡ 16 ⌝ }
     ensures totals { λ _. ⌜ ((s : ℕ) → s < 16 → at-bank means (now (m .entry)) (now (new .exit)) s ≡ winner means (now (m .entry)) (hears place (now (reading .entry))) (now (old .entry)) s) ⌝ }
     ensures decisions { λ r. ⌜ r ≡ packed (one-wins means (now (m .entry)) (hears place (now (reading .entry))) (now (old .entry))) 16 ⌝ }
@@ -86,7 +119,14 @@ fn advance<M: Measure>(m: &M, place: usize, reading: &M::Reading, old: &[M::Tota
 }
 
 /// The same for the first four readings, when only `states` states are reached and each state has one way into it.
-fn widen<M: Measure>(m: &M, place: usize, reading: &M::Reading, old: &[M::Total], new: &mut [M::Total], states: usize)
+fn widen<M: Measure>(
+    m: &M,
+    place: usize,
+    reading: &M::Reading,
+    old: &[M::Total],
+    new: &mut [M::Total],
+    states: usize,
+)
     requires { ⌜ length (now old) ≡ 16 ⌝ ∗ ⌜ length (now new) ≡ 16 ⌝ ∗ ⌜ states ≤ 8 ⌝ }
     ensures { λ _. ⌜ ((s : ℕ) → s < 2 * states → at-bank means (now (m .entry)) (now (new .exit)) s ≡ via means (now (m .entry)) (hears place (now (reading .entry))) (now (old .entry)) 0 s) ⌝ }
 {
@@ -94,12 +134,23 @@ fn widen<M: Measure>(m: &M, place: usize, reading: &M::Reading, old: &[M::Total]
         let total = old[j];
         let plain = output_of(j);
         store(new, 2 * j, m.extend(total, place, reading, plain));
-        store(new, 2 * j + 1, m.extend(total, place, reading, turned_over(plain)));
+        store(
+            new,
+            2 * j + 1,
+            m.extend(total, place, reading, turned_over(plain)),
+        );
     }
 }
 
 /// One reading further: the totals of `old` lead to those of `new`, after `t` readings.
-pub(crate) fn step<M: Measure>(m: &M, t: usize, place: usize, reading: &M::Reading, old: &[M::Total], new: &mut [M::Total]) -> u16
+pub(crate) fn step<M: Measure>(
+    m: &M,
+    t: usize,
+    place: usize,
+    reading: &M::Reading,
+    old: &[M::Total],
+    new: &mut [M::Total],
+) -> u16
     requires { ⌜ length (now old) ≡ 16 ⌝ ∗ ⌜ length (now new) ≡ 16 ⌝ }
     ensures { λ r. ⌜ ((ys : List (Heard M·Reading)) (ds : List ℕ) → length ys ≡ t → Holds means (now (m .entry)) ys (now (old .entry)) ds → Holds means (now (m .entry)) (hears place (now (reading .entry)) ∷ ys) (now (new .exit)) (r ∷ ds)) ⌝ }
 {

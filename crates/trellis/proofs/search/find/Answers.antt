@@ -8,9 +8,10 @@ use Rattle.trellis.proofs.search.find.Needs as need
 pub word-of-requires : need.word-of-requires
 word-of-requires g c κs =
     let ds = c .weigh .last .decisions in
-    let path = c .trace .last .decisions in
-    (omega (arith, path-long ds path (c .trace .ensures), sizes (c .args .block) .3, c .pre .1 .1),
-    λ i. bit-below path i (path-bits ds path (c .trace .ensures)))
+    let path = c .trace .last .decisions in (
+      omega (arith, path-long ds path (c .trace .ensures), sizes (c .args .block) .3, c .pre .1 .1),
+      λ i. bit-below path i (path-bits ds path (c .trace .ensures)),
+    )
 
 pub returns : need.returns
 returns g c =

@@ -24,8 +24,8 @@ loop-k-again c =
     let part = drop at bits in
     let b = getD bits (at + k) 0 in
     let more : number-of (take (k + 1) part) ≡ number-of (take k part) * 2 + b =
-        ap number-of (take-more part k 0 (omega (arith, length-drop at bits, c .pre .0)))
-        ∙ number-from-append (take k part) (getD part k 0 ∷ []) 0
-        ∙ ap (λ x. number-of (take k part) * 2 + x) (getD-drop at bits k 0) in
+    ap number-of (take-more part k 0 (omega (arith, length-drop at bits, c .pre .0)))
+    ∙ number-from-append (take k part) (getD part k 0 ∷ []) 0
+    ∙ ap (λ x. number-of (take k part) * 2 + x) (getD-drop at bits k 0) in
     let twice : 2 ^ (k + 1) ≡ 2 ^ k * 2 = ap (λ n. 2 ^ n) (add-one k) ∙ pow-suc 2 k in
     (omega (arith, twice, c .pre .1 (at + k), c .loop-k .inv .0), omega (arith, more, c .loop-k .inv .1))

@@ -8,9 +8,11 @@ pub loop-t-holds : need.loop-t-holds
 loop-t-holds c = (omega arith, omega arith, trace-none (c .args .decisions .now))
 
 pub loop-t-again : need.loop-t-again
-loop-t-again c =
-    (simp length-set (omega arith), omega arith,
-    trace-more (c .loop-t .decisions) _ (c .loop-t .t) (c .loop-t .state) (omega arith) (c .loop-t .inv .0) (c .loop-t .inv .2))
+loop-t-again c = (
+  simp length-set (omega arith),
+  omega arith,
+  trace-more (c .loop-t .decisions) _ (c .loop-t .t) (c .loop-t .state) (omega arith) (c .loop-t .inv .0) (c .loop-t .inv .2),
+)
 
 pub returns : need.returns
 returns c = trace-all (c .loop-t .decisions) _ (c .loop-t .t) (c .loop-t .state) (omega arith) (c .loop-t .inv .2)

@@ -25,9 +25,10 @@ loop-j-again g c =
     let old = c .args .old .now in
     let y = hears (c .args .place) (c .args .reading .now) in
     let j = c .loop-j .j in
-    let more = decisions-more (one-wins μ m y old) j (c .loop-j .decisions) (c .butterfly-pair .result .ones) (omega arith) (c .loop-j .inv .0) (c .butterfly-pair .ensures .ones) in
-    (more .0,
-    λ s h.
-    two-more (c .loop-j .new) (c .store .last .bank) (c .store-in-loop-j .last .bank) (2 * j) (c .butterfly-pair .result .even) (c .butterfly-pair .result .odd) (μ .start m) (winner μ m y old)
-    (omega (arith, c .pre .1)) (c .store .ensures) (c .store-in-loop-j .ensures)
-    (c .butterfly-pair .ensures .even) (c .butterfly-pair .ensures .odd) (c .loop-j .inv .1) s (omega arith))
+    let more = decisions-more (one-wins μ m y old) j (c .loop-j .decisions) (c .butterfly-pair .result .ones) (omega arith) (c .loop-j .inv .0) (c .butterfly-pair .ensures .ones) in (
+      more .0,
+      λ s h.
+          two-more (c .loop-j .new) (c .store .last .bank) (c .store-in-loop-j .last .bank) (2 * j) (c .butterfly-pair .result .even) (c .butterfly-pair .result .odd) (μ .start m) (winner μ m y old)
+          (omega (arith, c .pre .1)) (c .store .ensures) (c .store-in-loop-j .ensures)
+          (c .butterfly-pair .ensures .even) (c .butterfly-pair .ensures .odd) (c .loop-j .inv .1) s (omega arith),
+    )
