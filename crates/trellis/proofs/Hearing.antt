@@ -13,9 +13,10 @@ use Rattle.std.proofs.shelf.Counted.{map-counting-more}
 use Rattle.std.proofs.shelf.Lists.{joined-more, map-id, take-more-set, length-reverse}
 use Rattle.layout.specs.declared.Block.{Block}
 use Rattle.layout.specs.Places.{length-of, stands, Own-places}
+use Rattle.layout.proofs.Own.{own-places}
 use Rattle.measure.specs.Meaning.{Meaning}
 use Rattle.trellis.specs.Words.{Heard, heard-at, heard-first}
-use Rattle.trellis.specs.Steps.{hears, Holds}
+use Rattle.trellis.specs.Steps.{hears, Holds, Stepped}
 use Rattle.trellis.proofs.Tracing.{reverse-push}
 
 counting-more : (n : ℕ) → counting 0 (n + 1) ≡ counting 0 n ++ n ∷ []
@@ -57,17 +58,23 @@ length-heard {R} b readings (suc n) own long h =
     ∙ length-append (joined f (counting 0 n)) (f n)
     ∙ omega arith
 
+-- an element, without one to fall back on
+at-place : {R : Type 0} (xs : List R) (i : ℕ) → i < length xs → (x : R) × (x ≡ getD xs i x)
+at-place [] i h = absurd (omega arith)
+at-place (x ∷ xs) zero h = (x, refl)
+at-place (x ∷ xs) (suc i) h = at-place xs i (omega arith)
+
 -- one reading more of a block
-pub weighed-more : {S R T : Type 0} (μ : Meaning S R T) (m : S) (b : Block) (readings : List R) (old new : List T) (ds : List ℕ) (n p d : ℕ) (y : R)
-    → ((ys : List (Heard R)) (es : List ℕ) → length ys ≡ n → Holds μ m ys old es → Holds μ m (hears p y ∷ ys) new (d ∷ es))
-    → Own-places b → length readings ≡ 480 → n < length-of b → n < length ds → p ≡ stands b n → y ≡ getD readings p y
+pub weighed-more : {S R T : Type 0} (μ : Meaning S R T) (m : S) (b : Block) (readings : List R) (old new : List T) (ds : List ℕ) (n d : ℕ)
+    → Stepped μ m n (stands b n) readings old new d → length readings ≡ 480 → n < length-of b → n < length ds
     → Holds μ m (reverse (heard-first b readings n)) old (reverse (take n ds))
     → Holds μ m (reverse (heard-first b readings (n + 1))) new (reverse (take (n + 1) (set ds n d)))
-weighed-more μ m b readings old new ds n p d y step own long inside room ep ey held =
-    let size : length (reverse (heard-first b readings n)) ≡ n = length-reverse (heard-first b readings n) ∙ length-heard b readings n own long (omega arith) in
-    let place : stands b n < length readings = omega (arith, own .within n inside) in
-    let heard-y : y ≡ getD readings (stands b n) y = ey ∙ ap (λ k. getD readings k y) ep in
-    let next = step (reverse (heard-first b readings n)) (reverse (take n ds)) size held in
-    subst (λ ys. Holds μ m ys new (reverse (take (n + 1) (set ds n d)))) (sym (heard-newest readings b n y place heard-y))
-    (subst (λ es. Holds μ m (hears (stands b n) y ∷ reverse (heard-first b readings n)) new es) (sym (decisions-newest ds n d room))
-    (subst (λ k. Holds μ m (hears k y ∷ reverse (heard-first b readings n)) new (d ∷ reverse (take n ds))) ep next))
+unfolding Stepped
+weighed-more μ m b readings old new ds n d step long inside room held =
+    let size : length (reverse (heard-first b readings n)) ≡ n =
+    length-reverse (heard-first b readings n) ∙ length-heard b readings n (own-places b) long (omega arith) in
+    let place : stands b n < length readings = omega (arith, own-places b .within n inside) in
+    let y = at-place readings (stands b n) place in
+    let next = step (y .0) (reverse (heard-first b readings n)) (reverse (take n ds)) (y .1) size held in
+    subst (λ ys. Holds μ m ys new (reverse (take (n + 1) (set ds n d)))) (sym (heard-newest readings b n (y .0) place (y .1)))
+    (subst (λ es. Holds μ m (hears (stands b n) (y .0) ∷ reverse (heard-first b readings n)) new es) (sym (decisions-newest ds n d room)) next)

@@ -1,21 +1,22 @@
 -- A bank and its decisions go on saying the best paths, one reading further.
-use mathlib.Core.Path.{_≡_, refl, sym, ap, _∙_}
+use mathlib.Core.Path.{_≡_, refl, sym, ap, subst, _∙_}
 use mathlib.Core.Logic.{_⊎_, inl, inr}
 use mathlib.Core.Bool.{Bool, true, false, cond}
 use mathlib.Core.List.{List, [], _∷_}
 use Prim.Native.Nat.{ℕ, zero, suc, _+_, _*_, _/_, _%_, _^_, _<_, _≤_}
 use native.Mathlib.Nat.{zero-div}
 use native.Mathlib.Omega.{arith}
-use lib.Dec.{ltb}
-use lib.ListN.{length}
+use lib.Dec.{ltb, leb}
+use lib.ListN.{length, getD}
 use borrow.Author.Tests.{ne-eqb}
-use Rattle.std.proofs.shelf.Tests.{cond-false, le-ltb}
+use Rattle.std.proofs.shelf.Lists.{getD-read}
+use Rattle.std.proofs.shelf.Tests.{cond-false, le-ltb, leb-true, leb-false}
 use Rattle.std.specs.declared.option.Option.{Option}
 use Rattle.std.specs.declared.option.Option.the-variants.{Some, None}
 use Rattle.measure.specs.Meaning.{Meaning}
 use Rattle.trellis.specs.Words.{Heard}
 use Rattle.trellis.specs.Search.{earlier-state, output, Path-to, longer, chosen, best}
-use Rattle.trellis.specs.Steps.{reached, packed, traced, at-bank, via, one-wins, winner, Holds}
+use Rattle.trellis.specs.Steps.{reached, packed, traced, at-bank, via, one-wins, winner, kept, hears, Holds, Stepped}
 use Rattle.trellis.proofs.Decisions.{unpacked}
 
 -- how many states are reached, early and later
@@ -31,14 +32,6 @@ reached-is (suc (suc (suc (suc k)))) =
 
 pub some-reached : (k : ℕ) → 0 < reached k
 some-reached k = let a = reached-is k in omega arith
-
--- the same number as the code computes it
-pub early-states : (t : ℕ) → t < 4 → (1 * 2 ^ t % 18446744073709551616 ≡ reached t) × (1 * 2 ^ t % 18446744073709551616 ≤ 8)
-early-states zero h = (refl, omega arith)
-early-states (suc zero) h = (refl, omega arith)
-early-states (suc (suc zero)) h = (refl, omega arith)
-early-states (suc (suc (suc zero))) h = (refl, omega arith)
-early-states (suc (suc (suc (suc t)))) h = absurd (omega arith)
 
 -- what is out of reach stays so one step before
 reached-back : (k s : ℕ) → s < 16 → reached (suc k) ≤ s → (reached k ≤ earlier-state 0 s) × (reached k ≤ earlier-state 1 s)
@@ -103,3 +96,25 @@ module _ {S R T : Type 0} (μ : Meaning S R T) (m : S) where
         ∙ two-ways s (one-wins μ m y bank s)
         ∙ ap (λ o. said o s (winner μ m y bank s)) (sym bit)
         ∙ ap (said (d / 2 ^ s % 2) s) (sym (totals s below))
+
+  -- one step, early or later
+  holds-more : (both : Bool) (y : Heard R) (ys : List (Heard R)) (bank next : List T) (ds : List ℕ) (won : ℕ) → both ≡ leb 4 (length ys)
+      → ((s : ℕ) → s < 16 → at-bank μ m next s ≡ kept μ m both y bank s) → won ≡ packed (one-wins μ m y bank) 16
+      → Holds μ m ys bank ds → Holds μ m (y ∷ ys) next (cond both won 0 ∷ ds)
+  holds-more true y ys bank next ds won e totals word held = holds-later y ys bank next ds won (leb-true 4 (length ys) (sym e)) totals word held
+  holds-more false y ys bank next ds won e totals word held =
+      let r = reached-is (length ys) in
+      let early = leb-false 4 (length ys) (sym e) in
+      holds-early y ys bank next ds (omega arith) (λ s h. totals s (omega arith)) held
+
+  -- what the code does in one step
+  pub stepped : (t place : ℕ) (readings : List R) (old next new : List T) (x : R) (both : Bool) (won decision : ℕ) → place < length readings
+      → x ≡ getD readings place x → both ≡ leb 4 t
+      → ((s : ℕ) → s < 16 → at-bank μ m next s ≡ kept μ m both (hears place x) old s) → won ≡ packed (one-wins μ m (hears place x) old) 16
+      → new ≡ next → decision ≡ cond both won 0 → Stepped μ m t place readings old new decision
+  unfolding Stepped
+  stepped t place readings old next new x both won decision inside ex eb totals word en ed y ys ds ey size held =
+      let same : x ≡ y = getD-read readings place x inside ex y ∙ sym ey in
+      let more = holds-more both (hears place x) ys old next ds won (eb ∙ ap (leb 4) (sym size)) totals word held in
+      subst (λ z. Holds μ m (hears place z ∷ ys) new (decision ∷ ds)) same
+      (subst (λ l. Holds μ m (hears place x ∷ ys) l (decision ∷ ds)) (sym en) (subst (λ d. Holds μ m (hears place x ∷ ys) next (d ∷ ds)) (sym ed) more))

@@ -1,3 +1,4 @@
+mod Ways
 pub mod States
 pub mod Optimal
 pub mod Decisions

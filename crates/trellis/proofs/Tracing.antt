@@ -14,9 +14,10 @@ use Rattle.trellis.specs.Steps.{traced}
 pub reverse-push : {A : Type 0} (xs : List A) (x : A) → reverse (xs ++ x ∷ []) ≡ x ∷ reverse xs
 reverse-push xs x = reverse-append xs (x ∷ [])
 
-pub trace-none : (ds : List ℕ) → reverse (traced (reverse (take (length ds) ds)) 0) ++ drop (length ds) ds ≡ reverse (traced (reverse ds) 0)
-trace-none ds =
-    ap (λ l. reverse (traced (reverse l) 0) ++ drop (length ds) ds) (take-all (length ds) ds (omega arith))
+pub trace-none : (ds : List ℕ) (end : ℕ) → end ≡ 0 → reverse (traced (reverse (take (length ds) ds)) end) ++ drop (length ds) ds ≡ reverse (traced (reverse ds) 0)
+trace-none ds end e =
+    ap (λ s. reverse (traced (reverse (take (length ds) ds)) s) ++ drop (length ds) ds) e
+    ∙ ap (λ l. reverse (traced (reverse l) 0) ++ drop (length ds) ds) (take-all (length ds) ds (omega arith))
     ∙ ap (λ l. reverse (traced (reverse ds) 0) ++ l) (drop-all (length ds) ds (omega arith))
     ∙ append-nil (reverse (traced (reverse ds) 0))
 

@@ -43,9 +43,21 @@ module _ {S R T : Type 0} (μ : Meaning S R T) (m : S) where
   abbrev pub winner : Heard R → List T → ℕ → T
   winner y bank s = cond (one-wins y bank s) (via y bank 1 s) (via y bank 0 s)
 
+  -- the same, if both states before are reached; else there is one way
+  abbrev pub kept : Bool → Heard R → List T → ℕ → T
+  kept both y bank s = cond both (winner y bank s) (via y bank 0 s)
+
   -- bank and decisions, newest first, say the best path into each state that is reached
   unfoldable pub Holds : List (Heard R) → List T → List ℕ → Type 0
   Holds ys bank ds = (s : ℕ) → s < reached (length ys) → best μ m ys s ≡ Some record { inputs = traced ds s; total = at-bank bank s }
+
+abbrev pub hears : {R : Type 0} → ℕ → R → Heard R
+hears place reading = record { place = place; reading = reading }
+
+-- a bank leads to the next and a decision, by the reading at a place after t others
+unfoldable pub Stepped : {S R T : Type 0} (μ : Meaning S R T) (m : S) → ℕ → ℕ → List R → List T → List T → ℕ → Type 0
+Stepped {R = R} μ m t place readings old new decision =
+    (y : R) (ys : List (Heard R)) (ds : List ℕ) → y ≡ getD readings place y → length ys ≡ t → Holds μ m ys old ds → Holds μ m (hears place y ∷ ys) new (decision ∷ ds)
 
 -- both bits of a dibit turned
 abbrev pub turned : Dibit → Dibit
@@ -53,6 +65,3 @@ turned D00 = D11
 turned D01 = D10
 turned D10 = D01
 turned D11 = D00
-
-abbrev pub hears : {R : Type 0} → ℕ → R → Heard R
-hears place reading = record { place = place; reading = reading }

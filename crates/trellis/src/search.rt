@@ -1,8 +1,8 @@
 //! From the readings of a block to its word.
 ghost use mathlib.Core.Path.{_≡_};
 ghost use mathlib.Core.List.{_++_, reverse};
-ghost use Prim.Native.Nat.{ℕ, _+_, _-_, _/_, _<_, _≤_};
-ghost use lib.ListN.{length, getD, take, drop, replicate};
+ghost use Prim.Native.Nat.{ℕ, _+_, _-_, _*_, _/_, _<_, _≤_};
+ghost use lib.ListN.{length, getD, take, drop, set, replicate};
 ghost use Rattle.bits.specs.Bits.{number-of, numbers-of};
 ghost use Rattle.layout.specs.Places.{length-of};
 ghost use Rattle.fault.specs.Faults.{refused-or};
@@ -10,7 +10,6 @@ ghost use Rattle.trellis.specs.Answers.{size-fault, Answers, Searched};
 ghost use Rattle.trellis.specs.Words.{heard};
 ghost use Rattle.trellis.specs.Steps.{traced, Holds};
 use crate::steps::step;
-use crate::steps::store;
 use fault::Fault;
 use fault::Memory;
 use layout::Block;
@@ -39,20 +38,19 @@ fn weigh<M: Measure>(
     requires { ⌜ length (now readings) ≡ 480 ⌝ ∗ ⌜ length (now even) ≡ 16 ⌝ ∗ ⌜ length (now odd) ≡ 16 ⌝ ∗ ⌜ length (now decisions) ≡ length-of block ⌝ }
     ensures { λ _. ⌜ Holds means (now (m .entry)) (reverse (heard block (now (readings .entry)))) (now (even .exit)) (reverse (now (decisions .exit))) ⌝ }
 {
-    store(even, 0, m.start());
+    even[0] = m.start();
     for i in 0..decisions.len() / 2 {
-        let first = block.place(2 * i);
-        decisions[2 * i] = step(m, 2 * i, first, &readings[first], even, odd);
-        let second = block.place(2 * i + 1);
-        decisions[2 * i + 1] = step(m, 2 * i + 1, second, &readings[second], odd, even);
+        decisions[2 * i] = step(m, block, 2 * i, readings, even, odd);
+        decisions[2 * i + 1] = step(m, block, 2 * i + 1, readings, odd, even);
     }
 }
 
 /// Follows the decisions back from the all-0 state, and puts the inputs in their place.
-fn trace(decisions: &mut [u16])
+fn trace(decisions: &mut [u16], end: u16)
+    requires { ⌜ end ≡ 0 ⌝ }
     ensures { λ _. ⌜ now (decisions .exit) ≡ reverse (traced (reverse (now (decisions .entry))) 0) ⌝ }
 {
-    let mut state = 0;
+    let mut state = end;
     let mut t = decisions.len();
     while t > 0 {
         t -= 1;
@@ -74,6 +72,13 @@ fn gathered(bits: &[u16], at: usize) -> u8
     byte
 }
 
+fn set_byte(word: &mut [u8; WORD_BYTES], bits: &[u16], k: usize)
+    requires { ⌜ k < 22 ⌝ ∗ ⌜ 8 * k + 8 ≤ length (now bits) ⌝ ∗ ⌜ ((i : ℕ) → getD (now bits) i 0 < 2) ⌝ }
+    ensures { λ _. ⌜ now (word .exit) ≡ set (now (word .entry)) k (number-of (take 8 (drop (8 * k) (now (bits .entry))))) ⌝ }
+{
+    word[k] = gathered(bits, 8 * k);
+}
+
 /// The bits in bytes, as many as fill one.
 fn word_of(bits: &[u16]) -> [u8; WORD_BYTES]
     requires { ⌜ length (now bits) ≤ 180 ⌝ ∗ ⌜ ((i : ℕ) → getD (now bits) i 0 < 2) ⌝ }
@@ -81,7 +86,7 @@ fn word_of(bits: &[u16]) -> [u8; WORD_BYTES]
 {
     let mut word = [0; WORD_BYTES];
     for k in 0..bits.len() / 8 {
-        word[k] = gathered(bits, 8 * k);
+        set_byte(&mut word, bits, k);
     }
     word
 }
@@ -98,7 +103,7 @@ fn find<M: Measure>(
 {
     let (even, odd) = totals.split_at_mut(16);
     weigh(m, block, readings, even, odd, decisions);
-    trace(decisions);
+    trace(decisions, 0);
     Found {
         word: word_of(decisions),
         total: even[0],

@@ -5,7 +5,7 @@ use Rattle.trellis.proofs.Tracing.{trace-none, trace-more, trace-all}
 use Rattle.trellis.proofs.search.trace.Needs as need
 
 pub loop-t-holds : need.loop-t-holds
-loop-t-holds c = (omega arith, omega arith, trace-none (c .args .decisions .now))
+loop-t-holds c = (omega arith, omega (arith, c .pre), trace-none (c .args .decisions .now) (c .args .end) (c .pre))
 
 pub loop-t-again : need.loop-t-again
 loop-t-again c = (

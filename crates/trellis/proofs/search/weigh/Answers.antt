@@ -16,8 +16,8 @@ pub loop-i-holds : need.loop-i-holds
 loop-i-holds g c =
     let μ = g .M·Measure .means in
     let m = c .args .m .now in
-    holds-none μ m (c .store .last .bank)
-    (ap (λ l. at-bank μ m l 0) (c .store .ensures) ∙ getD-set-same (c .args .even .now) 0 (c .start .result) (μ .start m) (omega (arith, c .pre .1 .0)) ∙ c .start .ensures)
+    let first = getD-set-same (c .args .even .now) 0 (c .start .result) (μ .start m) (omega (arith, c .pre .1 .0)) in
+    holds-none μ m (set (c .args .even .now) 0 (c .start .result)) (first ∙ c .start .ensures)
 
 pub loop-i-again : need.loop-i-again
 loop-i-again g c =
@@ -31,11 +31,11 @@ loop-i-again g c =
     let once = set ds (2 * i) (c .step .result) in
     let same = length-set ds (2 * i) (c .step .result) in
     let first =
-    weighed-more μ m b readings (c .loop-i .even) (c .step .last .new) ds (2 * i) (c .place-first .result) (c .step .result) (c .index-readings-first .result)
-    (c .step .ensures) (c .place-first .ensures .law) (c .pre .0) (omega arith) (omega arith) (c .place-first .ensures .value) (c .index-readings-first .is) (c .loop-i .inv) in
+    weighed-more μ m b readings (c .loop-i .even) (c .step .last .new) ds (2 * i) (c .step .result)
+    (c .step .ensures) (c .pre .0) (omega arith) (omega arith) (c .loop-i .inv) in
     let second =
-    weighed-more μ m b readings (c .step .last .new) (c .step-in-loop-i .last .new) once (2 * i + 1) (c .place-second .result) (c .step-in-loop-i .result) (c .index-readings-second .result)
-    (c .step-in-loop-i .ensures) (c .place-second .ensures .law) (c .pre .0) (omega arith) (omega arith) (c .place-second .ensures .value) (c .index-readings-second .is) first in
+    weighed-more μ m b readings (c .step .last .new) (c .step-in-loop-i .last .new) once (2 * i + 1) (c .step-in-loop-i .result)
+    (c .step-in-loop-i .ensures) (c .pre .0) (omega arith) (omega arith) first in
     let next : 2 * i + 1 + 1 ≡ 2 * (i + 1) = omega arith in
     subst
     (λ n. Holds μ m (reverse (heard-first b readings n)) (c .step-in-loop-i .last .new) (reverse (take n (set once (2 * i + 1) (c .step-in-loop-i .result)))))

@@ -3,7 +3,7 @@ use Prim.Native.Nat.{ℕ, _+_, _*_, _%_, _^_, _<_}
 use native.Mathlib.Omega.{arith}
 use borrow.Author.Needs.{needs}
 use lib.ListN.{length}
-use Rattle.trellis.specs.Steps.{packed, one-wins, winner, hears}
+use Rattle.trellis.specs.Steps.{packed, one-wins, kept, hears}
 use Rattle.trellis.proofs.Butterflies.{decisions-more, two-more}
 use Rattle.trellis.proofs.steps.advance.Needs as need
 
@@ -28,7 +28,7 @@ loop-j-again g c =
     let more = decisions-more (one-wins μ m y old) j (c .loop-j .decisions) (c .butterfly-pair .result .ones) (omega arith) (c .loop-j .inv .0) (c .butterfly-pair .ensures .ones) in (
       more .0,
       λ s h.
-          two-more (c .loop-j .new) (c .store .last .bank) (c .store-in-loop-j .last .bank) (2 * j) (c .butterfly-pair .result .even) (c .butterfly-pair .result .odd) (μ .start m) (winner μ m y old)
+          two-more (c .loop-j .new) (c .store .last .bank) (c .store-in-loop-j .last .bank) (2 * j) (c .butterfly-pair .result .even) (c .butterfly-pair .result .odd) (μ .start m) (kept μ m (c .args .both) y old)
           (omega (arith, c .pre .1)) (c .store .ensures) (c .store-in-loop-j .ensures)
           (c .butterfly-pair .ensures .even) (c .butterfly-pair .ensures .odd) (c .loop-j .inv .1) s (omega arith),
     )
