@@ -1,7 +1,7 @@
 //! From the readings of a block to its word.
 ghost use mathlib.Core.Path.{_≡_};
-ghost use mathlib.Core.List.{_++_, reverse};
 ghost use Prim.Native.Nat.{ℕ, _+_, _-_, _*_, _/_, _<_, _≤_};
+ghost use mathlib.Core.List.{_++_, reverse};
 ghost use lib.ListN.{length, getD, take, drop, set, replicate};
 ghost use Rattle.bits.specs.Bits.{number-of, numbers-of};
 ghost use Rattle.layout.specs.Places.{length-of};
