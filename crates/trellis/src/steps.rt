@@ -1,12 +1,11 @@
 //! One step of the search: from the totals of the sixteen states to those one reading further.
 ghost use mathlib.Core.Path.{_≡_};
-ghost use mathlib.Core.Bool.{Bool, cond};
-ghost use mathlib.Core.List.{List, [], _∷_};
-ghost use Prim.Native.Nat.{ℕ, _+_, _*_, _<_, _≤_};
+ghost use mathlib.Core.Bool.{cond};
+ghost use mathlib.Core.List.{[], _∷_};
+ghost use Prim.Native.Nat.{ℕ, _+_, _*_, _<_};
 ghost use lib.Dec.{leb};
 ghost use lib.ListN.{length, set};
 ghost use Rattle.layout.specs.Places.{length-of, stands};
-ghost use Rattle.trellis.specs.Words.{Heard};
 ghost use Rattle.trellis.specs.Search.{output};
 ghost use Rattle.trellis.specs.Steps.{packed, at-bank, one-wins, kept, turned, hears, Stepped};
 use bits::Dibit;
