@@ -1,4 +1,6 @@
 //! Bits and dibits of byte strings, and the shift register that divides by a polynomial.
+#![tactic(auto)]
+
 ghost use Rattle.std.specs.Prelude.{◌≡◌, ◌<◌, if◌then◌else◌, nat_le, slice_index};
 ghost use Rattle.bits.specs.Bits.{bits_of, bit_at};
 ghost use Rattle.bits.specs.Dibits.{dibit, value_of};

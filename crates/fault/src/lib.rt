@@ -1,4 +1,6 @@
 //! Every refusal by its cause, with the number and the detail under which it is reported.
+#![tactic(auto)]
+
 ghost use Rattle.std.specs.Prelude.{◌≡◌};
 ghost use Rattle.fault.specs.Faults.{number_of, detail_of, memory_number, field_number, buffer_number};
 

@@ -1,4 +1,5 @@
 //! Where a frame keeps its parts.
+#![tactic(auto)]
 ghost use Rattle.std.specs.Prelude.{◌≡◌};
 ghost use Rattle.layout.specs.Places.{interleave_of, length_of, stands, OwnPlaces};
 

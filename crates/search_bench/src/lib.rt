@@ -1,4 +1,5 @@
 //! The search with work memory of its own, for C to call.
+#![tactic(auto)]
 ghost use Rattle.std.specs.Prelude.{◌≡◌, ℕ, ◌/◌, length};
 ghost use Rattle.measure.specs.Marks.{marks_means};
 ghost use Rattle.measure.specs.Levels.{levels_means};

@@ -3,6 +3,7 @@
 //! A line is a case: `marks` or `levels`, the block, the first place and the length of the stretch that is muted
 //! (length 0: none is), and the 480 readings. Marks are hexadecimal digits, levels decimal numbers between commas.
 //! The expected values were computed by an independent implementation.
+#![tactic(auto)]
 use anyhow::anyhow;
 use layout::Block;
 use measure::Measure;
