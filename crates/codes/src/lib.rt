@@ -1,5 +1,6 @@
 //! The codes that a frame is made of, save the Golay code.
 #![tactic(auto)]
+
 pub mod convolution;
 pub mod crc;
 pub mod interleave;

@@ -1,5 +1,6 @@
 //! The frame information channel (FICH): its fields, and the settings that a sender chooses.
 #![tactic(auto)]
+
 pub mod fich;
 mod received;
 pub mod settings;

@@ -1,5 +1,6 @@
 //! The extended Golay code (24,12,8): twelve data bits in a word of 24 that survives three turned bits.
 #![tactic(auto)]
+
 ghost use Rattle.std.specs.Prelude.{◌≡◌, ◌%◌, ◌^◌, ◌<◌, ◌≤◌};
 ghost use Rattle.bits.specs.Bits.{bits_of};
 ghost use Rattle.bits.specs.Division.{remainder};

@@ -1,5 +1,6 @@
 //! Where a frame keeps its parts.
 #![tactic(auto)]
+
 ghost use Rattle.std.specs.Prelude.{◌≡◌};
 ghost use Rattle.layout.specs.Places.{interleave_of, length_of, stands, OwnPlaces};
 

@@ -13,9 +13,9 @@ loop-place-preserved c =
     let register = bits_of 16 c.loop-place.register in
     let bit = d / 2 ^ j % 2 in
     let next : suc j ≡ c.loop-place.place = omega arith in
-    let fed-in = c.shift-in-register.ensures ∙ ap (shifted g register) (bit_test bit (mod-lt (d / 2 ^ j) (omega arith))) in (
+    let fed-in = c.shift_in-register.ensures ∙ ap (shifted g register) (bit_test bit (mod-lt (d / 2 ^ j) (omega arith))) in (
       ap (λ l. fed g l (bits_of j d)) fed-in ∙ sym (fed_next g register j d) ∙ ap (λ k. fed g register (bits_of k d)) next ∙ c.loop-place.invariant.0,
-      c.shift-in-register.type-inv,
+      c.shift_in-register.type_inv,
     )
 
 pub returns : goal.returns

@@ -31,50 +31,50 @@ loop-frame-preserved g c =
     let inv = c.loop-frame.invariant in
     let frames = c.loop-frame.frames in
     let faults = c.loop-frame.faults in
-    let outcome = c.read-fich-marks-outcome.result in
+    let outcome = c.read_fich_marks-outcome.result in
     let frame = c.in-Some.frame in
     let handed = c.in-Some.ensures in
     let begin =
     next_line g.M.Measure.means c.args.m.now c.args.readings.now c.loop-frame.walk.readings.now (here c.loop-frame.walk) (here c.next.new.self)
     record { place = frame.place; missed = frame.missed; readings = frame.readings.now } outcome _ _ _ _ inv.0 handed.value handed.after
-    c.loop-frame.auto.totals c.loop-frame.auto.numbers c.requires c.read-fich-marks-outcome.ensures.value in
-    let none = none_refused (note_fault outcome frames faults) tt tt (sym c.note.ensures.value ∙ c.in-ok-note.was) in (
+    c.loop-frame.auto.totals c.loop-frame.auto.numbers c.requires c.read_fich_marks-outcome.ensures.value in
+    let none = none_refused (note_fault outcome frames faults) tt tt (sym c.note.ensures.value ∙ c.in_ok-note.was) in (
       ap (λ r. r.now) handed.same ∙ inv.0,
-      c.note.ensures.frame-room ∙ inv.1,
-      c.note.ensures.fault-room ∙ inv.2,
-      c.note.ensures.frame-slots ∙ inv.3,
-      c.note.ensures.fault-slots ∙ inv.4,
+      c.note.ensures.frame_room ∙ inv.1,
+      c.note.ensures.fault_room ∙ inv.2,
+      c.note.ensures.frame_slots ∙ inv.3,
+      c.note.ensures.fault_slots ∙ inv.4,
       turned_on frames c.note.new.frames faults c.note.new.faults frame.place frame.missed outcome
           _ _ _ _ _ begin inv.5
-          c.note.ensures.frames c.note.ensures.faults c.note.ensures.frame-room c.note.ensures.fault-room none,
+          c.note.ensures.frames c.note.ensures.faults c.note.ensures.frame_room c.note.ensures.fault_room none,
     )
 
-pub returns-in-err-note : goal.returns-in-err-note
-returns-in-err-note g c =
+pub returns-in_err-note : goal.returns-in_err-note
+returns-in_err-note g c =
     let inv = c.loop-frame.invariant in
     let frames = c.loop-frame.frames in
     let faults = c.loop-frame.faults in
-    let outcome = c.read-fich-marks-outcome.result in
+    let outcome = c.read_fich_marks-outcome.result in
     let frame = c.in-Some.frame in
     let handed = c.in-Some.ensures in
     let begin =
     next_line g.M.Measure.means c.args.m.now c.args.readings.now c.loop-frame.walk.readings.now (here c.loop-frame.walk) (here c.next.new.self)
     record { place = frame.place; missed = frame.missed; readings = frame.readings.now } outcome _ _ _ _ inv.0 handed.value handed.after
-    c.loop-frame.auto.totals c.loop-frame.auto.numbers c.requires c.read-fich-marks-outcome.ensures.value in
-    let why = c.in-err-note.field-0.0 in
-    let full = fault_refused (note_fault outcome frames faults) tt why (sym c.note.ensures.value ∙ c.in-err-note.was) in
+    c.loop-frame.auto.totals c.loop-frame.auto.numbers c.requires c.read_fich_marks-outcome.ensures.value in
+    let why = c.in_err-note.field-0.0 in
+    let full = fault_refused (note_fault outcome frames faults) tt why (sym c.note.ensures.value ∙ c.in_err-note.was) in
     let last =
     turned_last frames c.note.new.frames faults c.note.new.faults frame.place frame.missed outcome
     _ _ _ _ _ begin inv.5 c.note.ensures.frames c.note.ensures.faults why full in
-    let p = err_from_is_err_and c.from-residual.result c.from-residual.ensures.1 in
+    let p = err_from_is_err_and c.from_residual.result c.from_residual.ensures.1 in
     record {
       value = p.1 ∙ ap Err p.2 ∙ ap (λ o. refused_or o tt) last.2;
       frames = last.0;
       faults = last.1;
-      frame-room = c.note.ensures.frame-room ∙ inv.1;
-      fault-room = c.note.ensures.fault-room ∙ inv.2;
-      frame-slots = c.note.ensures.frame-slots ∙ inv.3;
-      fault-slots = c.note.ensures.fault-slots ∙ inv.4;
+      frame_room = c.note.ensures.frame_room ∙ inv.1;
+      fault_room = c.note.ensures.fault_room ∙ inv.2;
+      frame_slots = c.note.ensures.frame_slots ∙ inv.3;
+      fault_slots = c.note.ensures.fault_slots ∙ inv.4;
     }
 
 pub returns : goal.returns
@@ -93,8 +93,8 @@ returns g c =
       value = ap (λ o. refused_or o tt) all.2;
       frames = all.0;
       faults = all.1;
-      frame-room = inv.1;
-      fault-room = inv.2;
-      frame-slots = inv.3;
-      fault-slots = inv.4;
+      frame_room = inv.1;
+      fault_room = inv.2;
+      frame_slots = inv.3;
+      fault_slots = inv.4;
     }

@@ -15,10 +15,10 @@ use Rattle.index.proofs.fill_checked.Goals as goal
 pub fill-requires : goal.fill-requires
 fill-requires g c =
     none_refused (size_fault 480 (length c.args.totals.now) (length c.args.numbers.now)) tt tt
-    (sym c.check-sizes.ensures ∙ c.in-ok-check-sizes.was)
+    (sym c.check_sizes.ensures ∙ c.in_ok-check_sizes.was)
 
-pub returns-in-err-check-sizes : goal.returns-in-err-check-sizes
-returns-in-err-check-sizes g c =
+pub returns-in_err-check_sizes : goal.returns-in_err-check_sizes
+returns-in_err-check_sizes g c =
     let μ = g.M.Measure.means in
     let m = c.args.m.now in
     let readings = c.args.readings.now in
@@ -28,18 +28,18 @@ returns-in-err-check-sizes g c =
     let kept = fitting (room frames) (room faults) lines in
     let full = full_fault (room frames) (room faults) lines in
     let sizes = size_fault 480 (length c.args.totals.now) (length c.args.numbers.now) in
-    let why = c.in-err-check-sizes.field-0.0 in
-    let is = fault_refused sizes tt why (sym c.check-sizes.ensures ∙ c.in-err-check-sizes.was) in
-    let p = err_from_is_err_and c.from-residual.result c.from-residual.ensures.1 in
+    let why = c.in_err-check_sizes.field-0.0 in
+    let is = fault_refused sizes tt why (sym c.check_sizes.ensures ∙ c.in_err-check_sizes.was) in
+    let p = err_from_is_err_and c.from_residual.result c.from_residual.ensures.1 in
     record {
       value = p.1 ∙ ap Err p.2 ∙ sym (ap (λ o. refused_or (or_else o full) tt) is);
       frames = sym (append-nil (listed frames)) ∙ sym (ap (λ o. listed frames ++ accepted (unless o kept [])) is);
       faults = sym (append-nil (listed faults)) ∙ sym (ap (λ o. listed faults ++ refused (unless o kept [])) is);
       law = indexed μ m readings splits_back (runs μ m readings) (room frames) (room faults);
-      frame-room = refl;
-      fault-room = refl;
-      frame-slots = refl;
-      fault-slots = refl;
+      frame_room = refl;
+      fault_room = refl;
+      frame_slots = refl;
+      fault_slots = refl;
     }
 
 pub returns : goal.returns
@@ -53,14 +53,14 @@ returns g c =
     let kept = fitting (room frames) (room faults) lines in
     let full = full_fault (room frames) (room faults) lines in
     let sizes = size_fault 480 (length c.args.totals.now) (length c.args.numbers.now) in
-    let none = none_refused sizes tt tt (sym c.check-sizes.ensures ∙ c.in-ok-check-sizes.was) in
+    let none = none_refused sizes tt tt (sym c.check_sizes.ensures ∙ c.in_ok-check_sizes.was) in
     record {
       value = c.fill.ensures.value ∙ sym (ap (λ o. refused_or (or_else o full) tt) none);
       frames = c.fill.ensures.frames ∙ sym (ap (λ o. listed frames ++ accepted (unless o kept [])) none);
       faults = c.fill.ensures.faults ∙ sym (ap (λ o. listed faults ++ refused (unless o kept [])) none);
       law = indexed μ m readings splits_back (runs μ m readings) (room frames) (room faults);
-      frame-room = c.fill.ensures.frame-room;
-      fault-room = c.fill.ensures.fault-room;
-      frame-slots = c.fill.ensures.frame-slots;
-      fault-slots = c.fill.ensures.fault-slots;
+      frame_room = c.fill.ensures.frame_room;
+      fault_room = c.fill.ensures.fault_room;
+      frame_slots = c.fill.ensures.frame_slots;
+      fault_slots = c.fill.ensures.fault_slots;
     }

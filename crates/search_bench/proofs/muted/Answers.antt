@@ -11,16 +11,16 @@ loop-i-init c = ap Ok (sym c.new-mute.ensures.value)
 pub loop-i-preserved : goal.loop-i-preserved
 loop-i-preserved c =
     grown c.loop-i.i c.args.stretches.now c.loop-i.mute c.add.new.self c.loop-i.invariant
-    (sym c.add.ensures.answer ∙ c.in-ok-add.was) c.add.ensures.after
+    (sym c.add.ensures.answer ∙ c.in_ok-add.was) c.add.ensures.after
 
-pub returns-in-err-add : goal.returns-in-err-add
-returns-in-err-add c =
+pub returns-in_err-add : goal.returns-in_err-add
+returns-in_err-add c =
     let numbers = c.args.stretches.now in
-    let told = err_from_is_err_and c.from-residual.result c.from-residual.ensures.1 in
+    let told = err_from_is_err_and c.from_residual.result c.from_residual.ensures.1 in
     told.1
     ∙ ap Err told.2
-    ∙ sym (refused c.loop-i.i (length numbers / 2) numbers c.loop-i.mute c.in-err-add.field-0.0 (omega arith) c.loop-i.invariant
-    (sym c.add.ensures.answer ∙ c.in-err-add.was))
+    ∙ sym (refused c.loop-i.i (length numbers / 2) numbers c.loop-i.mute c.in_err-add.field-0.0 (omega arith) c.loop-i.invariant
+    (sym c.add.ensures.answer ∙ c.in_err-add.was))
 
 pub returns : goal.returns
 returns c =

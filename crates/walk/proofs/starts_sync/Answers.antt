@@ -9,16 +9,16 @@ returns-then-place-readings g c =
 
 pub returns-then-ne : goal.returns-then-ne
 returns-then-ne g c =
-    let other : c.plain.result ≡ c.sync-dibit.result → ⊥ = grind arith in
+    let other : c.plain.result ≡ c.sync_dibit.result → ⊥ = grind arith in
     unlike_sync g.M.Measure.means c.args.m.now c.args.readings.now c.args.place c.loop-k.k c.index-readings-place.result
-    c.plain.result c.sync-dibit.result (omega arith) (omega arith) c.index-readings-place.is c.plain.ensures c.sync-dibit.ensures other
+    c.plain.result c.sync_dibit.result (omega arith) (omega arith) c.index-readings-place.is c.plain.ensures c.sync_dibit.ensures other
 
 pub loop-k-preserved : goal.loop-k-preserved
 loop-k-preserved g c =
-    let same : c.plain.result ≡ c.sync-dibit.result = grind arith in
+    let same : c.plain.result ≡ c.sync_dibit.result = grind arith in
     below_more _ _ c.loop-k.invariant
     (like_sync g.M.Measure.means c.args.m.now c.args.readings.now c.args.place c.loop-k.k c.index-readings-place.result
-    c.plain.result c.sync-dibit.result (omega arith) (omega arith) c.index-readings-place.is c.plain.ensures c.sync-dibit.ensures same)
+    c.plain.result c.sync_dibit.result (omega arith) (omega arith) c.index-readings-place.is c.plain.ensures c.sync_dibit.ensures same)
 
 pub returns : goal.returns
 returns g c =

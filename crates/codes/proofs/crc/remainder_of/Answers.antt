@@ -11,8 +11,8 @@ loop-byte-init c = crc-start c.args.bytes.now
 
 pub loop-byte-preserved : goal.loop-byte-preserved
 loop-byte-preserved c =
-    fed_byte crc_generator (bits_of 16 c.loop-byte.rest) (bits_of 16 c.divide-byte-rest.result) _ c.args.bytes.now c.loop-byte.byte-index
-    (omega arith) c.divide-byte-rest.ensures c.loop-byte.invariant
+    fed_byte crc_generator (bits_of 16 c.loop-byte.rest) (bits_of 16 c.divide_byte-rest.result) _ c.args.bytes.now c.loop-byte.byte-index
+    (omega arith) c.divide_byte-rest.ensures c.loop-byte.invariant
 
 pub returns : goal.returns
 unfolding fed byte_bits

@@ -10,8 +10,8 @@ loop-byte-init c =
 
 pub loop-byte-preserved : goal.loop-byte-preserved
 loop-byte-preserved c = (
-  c.eight-on-register.ensures.small,
-  white_more c.loop-byte.bytes _ c.loop-byte.byte-index c.loop-byte.register c.eight-on-register.result (omega arith) (search rules) c.loop-byte.invariant.0 c.eight-on-register.ensures.bits c.loop-byte.invariant.1,
+  c.eight_on-register.ensures.small,
+  white_more c.loop-byte.bytes _ c.loop-byte.byte-index c.loop-byte.register c.eight_on-register.result (omega arith) (search rules) c.loop-byte.invariant.0 c.eight_on-register.ensures.bits c.loop-byte.invariant.1,
 )
 
 pub returns : goal.returns

@@ -8,12 +8,12 @@ unfolding further
 loop-k-preserved c =
     let left = 8 - (c.loop-k.-k + 1) in
     let e : suc left ≡ 8 - c.loop-k.-k = omega arith in (
-      c.one-on-further-on.ensures.small,
-      ap (further left) c.one-on-further-on.ensures.bits ∙ ap (λ n. further n (bits_of 9 c.loop-k.further-on)) e ∙ c.loop-k.invariant.1,
+      c.one_on-further_on.ensures.small,
+      ap (further left) c.one_on-further_on.ensures.bits ∙ ap (λ n. further n (bits_of 9 c.loop-k.further_on)) e ∙ c.loop-k.invariant.1,
     )
 
 pub returns : goal.returns
 unfolding further
 returns c =
     let e : 0 ≡ 8 - c.loop-k.-k = omega arith in
-    record { small = c.loop-k.invariant.0; bits = ap (λ n. further n (bits_of 9 c.loop-k.further-on)) e ∙ c.loop-k.invariant.1 }
+    record { small = c.loop-k.invariant.0; bits = ap (λ n. further n (bits_of 9 c.loop-k.further_on)) e ∙ c.loop-k.invariant.1 }

@@ -11,8 +11,8 @@ pub returns : goal.returns
 returns c =
     let us = byte_bits c.args.inputs.now in
     record {
-      small = omega (arith, c.value.ensures, value_below c.coded-dibit.result);
+      small = omega (arith, c.value.ensures, value_below c.coded_dibit.result);
       value =
           c.value.ensures
-          ∙ ap value_of (c.coded-dibit.ensures ∙ sym (coded_at us c.item.result) ∙ ap (λ i. get_or (coded us) i D00) c.item.ensures.value);
+          ∙ ap value_of (c.coded_dibit.ensures ∙ sym (coded_at us c.item.result) ∙ ap (λ i. get_or (coded us) i D00) c.item.ensures.value);
     }

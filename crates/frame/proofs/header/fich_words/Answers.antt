@@ -4,5 +4,5 @@ use Rattle.frame.proofs.header.fich_words.Goals as goal
 
 pub returns : goal.returns
 returns c =
-    two_listed 6 6 c.golay-pair.result c.golay-pair-2.result _ _ (search rules) (search rules) c.golay-pair.ensures c.golay-pair-2.ensures
+    two_listed 6 6 c.golay_pair.result c.golay_pair-2.result _ _ (search rules) (search rules) c.golay_pair.ensures c.golay_pair-2.ensures
     ∙ words_of_six c.bytes-bytes.result _ c.crc16-check.result (search rules) c.bytes-bytes.ensures.bits c.crc16-check.ensures

@@ -4,8 +4,8 @@ use Rattle.golay.specs.Golay.{code_of}
 use Rattle.frame.proofs.Words.{three_bytes, code-bits, code_below}
 use Rattle.frame.proofs.header.golay_bytes.Goals as goal
 
-pub overflow-cast-result : goal.overflow-cast-result
-overflow-cast-result c =
+pub overflow_cast-result : goal.overflow_cast-result
+overflow_cast-result c =
     let below : c.codeword-word.result / 65536 < 256 = omega (arith, c.codeword-word.ensures.value, code_below (c.args.twelve % 4096)) in
     search rules
 

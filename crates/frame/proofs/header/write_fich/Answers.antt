@@ -3,4 +3,4 @@ use Rattle.frame.specs.Coding.{block_bytes}
 use Rattle.frame.proofs.header.write_fich.Goals as goal
 
 pub returns : goal.returns
-returns c = c.fill-block.ensures ∙ ap (block_bytes 5) c.fich-words.ensures
+returns c = c.fill_block.ensures ∙ ap (block_bytes 5) c.fich_words.ensures

@@ -8,5 +8,5 @@ pub returns : goal.returns
 returns c =
     let fich = c.args.fich.now in
     let message = c.args.message.now in
-    three_parts c.copy-from-slice.new.self sync_word c.write-fich.new.part _ c.write-units.new.part _ c.args.frame.now
-    c.copy-from-slice.ensures.after c.write-fich.ensures c.write-units.ensures c.requires.0 refl (fich_size fich message) (units_size fich message)
+    three_parts c.copy_from_slice.new.self sync_word c.write_fich.new.part _ c.write_units.new.part _ c.args.frame.now
+    c.copy_from_slice.ensures.after c.write_fich.ensures c.write_units.ensures c.requires.0 refl (fich_size fich message) (units_size fich message)

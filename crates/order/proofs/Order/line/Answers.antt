@@ -6,8 +6,8 @@ use Rattle.order.specs.Lines.{bare_of, key_of, value_of}
 use Rattle.order.proofs.Changes.{changed_at, changed_by_none}
 use Rattle.order.proofs.Order.line.Goals as goal
 
-pub returns-then-is-empty : goal.returns-then-is-empty
-returns-then-is-empty c =
+pub returns-then-is_empty : goal.returns-then-is_empty
+returns-then-is_empty c =
     let empty : length (bare_of c.args.line.now) ≡ 0 = search rules in
     record {
       value = search rules;

@@ -14,7 +14,7 @@ returns-then-end-line c =
 pub returns : goal.returns
 returns c =
     let line = c.args.line.now in
-    let end = c.key-length-end.result in
+    let end = c.key_length-end.result in
     let same : end - 0 ≡ key_length line = omega arith in
     let next : end + 1 ≡ key_length line + 1 = omega arith in
     record {

@@ -4,9 +4,9 @@ use Rattle.receive.proofs.fich.hear_marks.Goals as goal
 
 pub returns : goal.returns
 returns g c = record {
-  value = c.read-fich.ensures.value;
-  law = c.read-fich.ensures.law;
+  value = c.read_fich.ensures.value;
+  law = c.read_fich.ensures.law;
   survives =
       fich_survives g.M.Measure.means g.M.MutedMarks.muted g.met.M.MutedMarks.tied c.args.m.now c.args.readings.now
-      (length c.args.totals.now) (length c.args.numbers.now) c.read-fich.result c.read-fich.ensures.law;
+      (length c.args.totals.now) (length c.args.numbers.now) c.read_fich.result c.read_fich.ensures.law;
 }

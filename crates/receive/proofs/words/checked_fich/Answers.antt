@@ -13,6 +13,6 @@ returns-then-crc16-from c =
 pub returns : goal.returns
 returns c =
     let test = checks c.args.six c.crc16.result c.from.result c.from-2.result (search rules) c.crc16.ensures c.from.ensures c.from-2.ensures in
-    c.from-bytes.ensures.value
+    c.from_bytes.ensures.value
     ∙ ap fich_read (sym (front_four c.args.six (search rules)))
     ∙ sym (cond-true _ _ _ (test ∙ eq-eqb _ _ c.if-crc16-from.false))

@@ -4,4 +4,4 @@ use Rattle.receive.proofs.words.fich_of_word.Goals as goal
 
 pub returns : goal.returns
 returns c =
-    c.checked-fich.ensures ∙ ap checked_fich c.six-bytes.ensures ∙ ap fich_of_data (sym (sym c.golay-data.ensures ∙ c.in-ok-data.was))
+    c.checked_fich.ensures ∙ ap checked_fich c.six_bytes.ensures ∙ ap fich_of_data (sym (sym c.golay_data.ensures ∙ c.in_ok-data.was))

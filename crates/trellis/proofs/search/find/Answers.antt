@@ -4,8 +4,8 @@ use Rattle.trellis.proofs.States.{bit_below}
 use Rattle.trellis.proofs.Finding.{sizes, path_bits, path_long, found}
 use Rattle.trellis.proofs.search.find.Goals as goal
 
-pub word-of-requires : goal.word-of-requires
-word-of-requires g c =
+pub word_of-requires : goal.word_of-requires
+word_of-requires g c =
     let ds = c.weigh.new.decisions in
     let path = c.trace.new.decisions in (
       omega (arith, path_long ds path c.trace.ensures, (sizes c.args.block).3, c.requires.1.1),
@@ -17,6 +17,6 @@ returns g c =
     let μ = g.M.Measure.means in
     let m = c.args.m.now in
     found μ m g.met.M.Measure.lawful c.args.block c.args.readings.now c.weigh.new.bank c.weigh.new.decisions
-    c.trace.new.decisions c.word-of.result c.index-bank-0.result
-    c.requires.0 (omega (arith, c.requires.1.1)) c.weigh.ensures c.trace.ensures c.word-of.ensures
+    c.trace.new.decisions c.word_of.result c.index-bank-0.result
+    c.requires.0 (omega (arith, c.requires.1.1)) c.weigh.ensures c.trace.ensures c.word_of.ensures
     (get_or_read c.weigh.new.bank 0 c.index-bank-0.result (omega arith) c.index-bank-0.is (μ.start m))

@@ -8,4 +8,4 @@ returns g c =
     let readings = c.args.readings.now in
     searched g.M.Measure.means c.args.m.now c.args.block readings
     (size_fault (length readings) (length c.args.totals.now) (length c.args.numbers.now)) c.find.result
-    (sym c.check-sizes.ensures ∙ c.in-ok-check-sizes.was) c.find.ensures
+    (sym c.check_sizes.ensures ∙ c.in_ok-check_sizes.was) c.find.ensures

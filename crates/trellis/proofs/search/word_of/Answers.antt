@@ -8,8 +8,8 @@ pub loop-k-init : goal.loop-k-init
 unfolding numbers_of
 loop-k-init c = refl
 
-pub set-byte-requires : goal.set-byte-requires
-set-byte-requires c = (omega (arith, c.requires.0), (omega arith, c.requires.1))
+pub set_byte-requires : goal.set_byte-requires
+set_byte-requires c = (omega (arith, c.requires.0), (omega arith, c.requires.1))
 
 pub loop-k-preserved : goal.loop-k-preserved
 loop-k-preserved c =
@@ -19,7 +19,7 @@ loop-k-preserved c =
     let front = numbers_of 8 k bits in
     let left = 22 - (k + 1) in
     let more : 22 - k ≡ suc left = omega (arith, c.requires.0) in
-    c.set-byte.ensures
+    c.set_byte.ensures
     ∙ ap (λ l. set l k v) c.loop-k.invariant
     ∙ ap (λ n. set (front ++ replicate n 0) k v) more
     ∙ set_at front 0 (replicate left 0) v k (length-numbers_of 8 k bits)

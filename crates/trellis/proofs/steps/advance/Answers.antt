@@ -7,8 +7,8 @@ pub loop-j-init : goal.loop-j-init
 unfolding packed
 loop-j-init g c = (refl, λ s h. absurd (omega arith))
 
-pub overflow-add-decisions : goal.overflow-add-decisions
-overflow-add-decisions g c =
+pub overflow_add-decisions : goal.overflow_add-decisions
+overflow_add-decisions g c =
     let f = one_wins g.M.Measure.means c.args.m.now (hears c.args.place c.args.reading.now) c.args.old.now in
     let more = decisions_more f c.loop-j.j c.loop-j.decisions c.butterfly-pair.result.ones (omega arith) c.loop-j.invariant.0 c.butterfly-pair.ensures.ones in
     let fits = more.1 in

@@ -14,23 +14,23 @@ returns g c =
     let y = hears c.args.place c.args.reading.now in
     let low = get_or_read old j c.index-old-j.result (omega (arith, c.requires.1)) c.index-old-j.is (μ.start m) in
     let high = get_or_read old (j + 8) c.index-old-j-2.result (omega (arith, c.requires.1)) c.index-old-j-2.is (μ.start m) in
-    let ways = four_ways μ m y old j _ _ _ _ c.requires.0 low high c.output-of.ensures refl in
-    let even_zero = ap (λ l. get_or l 0 c.index-ways-0.result) c.four-ways-ways.ensures ∙ ways.even_zero in
-    let even_one = ap (λ l. get_or l 1 c.index-ways-1.result) c.four-ways-ways.ensures ∙ ways.even_one in
-    let odd_zero = ap (λ l. get_or l 2 c.index-ways-2.result) c.four-ways-ways.ensures ∙ ways.odd_zero in
-    let odd_one = ap (λ l. get_or l 3 c.index-ways-3.result) c.four-ways-ways.ensures ∙ ways.odd_one in
-    let even-only = ap (λ l. get_or l 0 c.index-ways-0-2.result) c.four-ways-ways.ensures ∙ ways.even_zero in
-    let odd-only = ap (λ l. get_or l 2 c.index-ways-2-2.result) c.four-ways-ways.ensures ∙ ways.odd_zero in
+    let ways = four_ways μ m y old j _ _ _ _ c.requires.0 low high c.output_of.ensures refl in
+    let even_zero = ap (λ l. get_or l 0 c.index-ways-0.result) c.four_ways-ways.ensures ∙ ways.even_zero in
+    let even_one = ap (λ l. get_or l 1 c.index-ways-1.result) c.four_ways-ways.ensures ∙ ways.even_one in
+    let odd_zero = ap (λ l. get_or l 2 c.index-ways-2.result) c.four_ways-ways.ensures ∙ ways.odd_zero in
+    let odd_one = ap (λ l. get_or l 3 c.index-ways-3.result) c.four_ways-ways.ensures ∙ ways.odd_one in
+    let even-only = ap (λ l. get_or l 0 c.index-ways-0-2.result) c.four_ways-ways.ensures ∙ ways.even_zero in
+    let odd-only = ap (λ l. get_or l 2 c.index-ways-2-2.result) c.four_ways-ways.ensures ∙ ways.odd_zero in
     let even = winner_is μ m y old (2 * j) _ _ even_zero even_one in
     let odd = winner_is μ m y old (2 * j + 1) _ _ odd_zero odd_one in
     record {
       even =
-          c.if-both.ensures
-          ∙ ap (λ t. cond both t (get_or c.four-ways-ways.result 0 c.index-ways-0-2.result)) (ap (λ p. p.0) c.pick-even.ensures ∙ even.0)
+          c.if_both.ensures
+          ∙ ap (λ t. cond both t (get_or c.four_ways-ways.result 0 c.index-ways-0-2.result)) (ap (λ p. p.0) c.pick-even.ensures ∙ even.0)
           ∙ ap (λ t. cond both (winner μ m y old (2 * j)) t) even-only;
       odd =
-          c.if-both-2.ensures
-          ∙ ap (λ t. cond both t (get_or c.four-ways-ways.result 2 c.index-ways-2-2.result)) (ap (λ p. p.0) c.pick-odd.ensures ∙ odd.0)
+          c.if_both-2.ensures
+          ∙ ap (λ t. cond both t (get_or c.four_ways-ways.result 2 c.index-ways-2-2.result)) (ap (λ p. p.0) c.pick-odd.ensures ∙ odd.0)
           ∙ ap (λ t. cond both (winner μ m y old (2 * j + 1)) t) odd-only;
       ones =
           ones_are c.from.result c.from-2.result _ _ _ _ c.from.ensures c.from-2.ensures

@@ -10,9 +10,9 @@ returns-in-Some g c =
     let m = c.args.m.now in
     let readings = c.args.self.now.readings.now in
     let s =
-    stepped μ m readings (here c.args.self.now) (here c.hand-out.new.self) (seen (Some c.hand-out.result))
-    (Some (c.in-Some.place, c.in-Some.missed)) c.in-Some.ensures.value c.hand-out.ensures.value c.hand-out.ensures.after in
-    record { value = s.value; after = s.after; same = c.hand-out.ensures.same; law = s.law; run = runs μ m readings }
+    stepped μ m readings (here c.args.self.now) (here c.hand_out.new.self) (seen (Some c.hand_out.result))
+    (Some (c.in-Some.place, c.in-Some.missed)) c.in-Some.ensures.value c.hand_out.ensures.value c.hand_out.ensures.after in
+    record { value = s.value; after = s.after; same = c.hand_out.ensures.same; law = s.law; run = runs μ m readings }
 
 pub returns-in-None : goal.returns-in-None
 returns-in-None g c =

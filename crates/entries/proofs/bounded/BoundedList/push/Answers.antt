@@ -3,10 +3,10 @@ use borrow.Author.Tests.{true-leb, false-leb}
 use Rattle.entries.proofs.Listing.{push_full, push_open, pushed, room-kept, unless_none, unless_some, answered, refused_with}
 use Rattle.entries.proofs.bounded.BoundedList.push.Goals as goal
 
-pub returns-then-is-full : goal.returns-then-is-full
-returns-then-is-full g c =
+pub returns-then-is_full : goal.returns-then-is_full
+returns-then-is_full g c =
     let list = c.args.self.now in
-    let full = push_full list (true-leb _ _ c.if-is-full.ensures) in
+    let full = push_full list (true-leb _ _ c.if-is_full.ensures) in
     record {
       value = refused_with _ _ _ full;
       items = unless_some _ _ _ _ full;
@@ -17,7 +17,7 @@ returns-then-is-full g c =
 pub returns : goal.returns
 returns g c =
     let list = c.args.self.now in
-    let lt = false-leb _ _ c.if-is-full.ensures in
+    let lt = false-leb _ _ c.if-is_full.ensures in
     let some-room = push_open list lt in
     record {
       value = answered _ _ some-room;
