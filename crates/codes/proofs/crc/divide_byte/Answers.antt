@@ -15,8 +15,8 @@ loop-k-preserved c =
     let x = byte / 2 ^ (7 - k) % 2 in
     let bit : cond (eqb x 1) 1 0 ≡ get_or (bits_of 8 byte) k 0 =
     bit_test x (mod-lt (byte / 2 ^ (7 - k)) (omega arith)) ∙ sym (get_or-bits_of 8 byte k (7 - k) (omega arith)) in
-    fed_more crc_generator (bits_of 8 byte) _ s (bits_of 16 c.shift_in-default.result) k (omega (arith, length-bits_of 8 byte))
-    (c.shift_in-default.ensures ∙ ap (λ g. shifted g s (cond (eqb x 1) 1 0)) generator-bits ∙ ap (shifted crc_generator s) bit)
+    fed_more crc_generator (bits_of 8 byte) _ s (bits_of 16 c.shift_in-rest.result) k (omega (arith, length-bits_of 8 byte))
+    (c.shift_in-rest.ensures ∙ ap (λ g. shifted g s (cond (eqb x 1) 1 0)) generator-bits ∙ ap (shifted crc_generator s) bit)
     c.loop-k.invariant
 
 pub returns : goal.returns
