@@ -1,5 +1,6 @@
 //! Measures weigh what was received for each dibit against what may have been sent.
 #![tactic(auto)]
+
 pub mod levels;
 pub mod marks;
 #[cfg(test)]

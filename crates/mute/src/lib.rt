@@ -1,5 +1,6 @@
 //! A measure over another, under which the readings of some stretches of places count for nothing.
 #![tactic(auto)]
+
 ghost use Rattle.std.specs.Prelude.{◌≡◌, ◌+◌, ◌<◌, ◌≤◌, ◌||◌, [], take, None};
 ghost use Rattle.fault.specs.Faults.{refused_or, unless};
 ghost use Rattle.mute.specs.Mutes.{mute_means, inside, covered, stretches, hidden, unmuted, added, add_fault, Grown};

@@ -1,5 +1,6 @@
 //! An order for a header frame, read line by line: `key value`, where a later line of a key wins.
 #![tactic(auto)]
+
 pub mod cause;
 mod decimal;
 mod keys;

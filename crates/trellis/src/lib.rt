@@ -1,4 +1,5 @@
 //! The search for the word that fits the readings of a block best.
 #![tactic(auto)]
+
 pub mod search;
 mod steps;

@@ -1,5 +1,6 @@
 //! The walk over a recording, from frame to frame.
 #![tactic(auto)]
+
 ghost use Rattle.std.specs.Prelude.{◌≡◌, ◌+◌, ◌<◌, ◌≤◌, true, false, length, take, drop, IfSome, if◌then◌else◌, Some};
 ghost use Rattle.walk.specs.Sync.{sync_dibit, synced, frame_places, first_sync};
 ghost use Rattle.walk.specs.Walks.{here, seen, start, found, past, shown, taken, frame_taken, position_after};
