@@ -16,7 +16,7 @@ use trellis::search::{check_sizes, search};
 /// Refuses the first reading that is not proper.
 fn check_proper<M: Measure>(m: &M, readings: &[M::Reading]) -> Result<(), Fault>
     requires { length readings.now ≡ 480 }
-    ensures { result ≡ refused_or (first_improper (means.proper m.now) 0 readings.now) tt }
+    ensures { result ≡ refused_or (first_improper (M.means.proper m.now) 0 readings.now) tt }
 {
     for (place, reading) in readings.iter().enumerate() {
         if !m.proper(reading) {
@@ -33,7 +33,7 @@ fn check_frame<M: Measure>(
     totals: usize,
     numbers: usize,
 ) -> Result<(), Fault>
-    ensures { result ≡ refused_or (frame_fault means m.now readings.now totals numbers) tt }
+    ensures { result ≡ refused_or (frame_fault M.means m.now readings.now totals numbers) tt }
 {
     check_sizes(readings.len(), totals, numbers)?;
     check_proper(m, readings)
@@ -47,8 +47,8 @@ fn best_fich<M: Measure>(
     numbers: &mut [u16],
 ) -> Result<Fich, Fault>
     requires { size_fault (length readings.now) (length totals.old) (length numbers.old) ≡ None }
-    ensures value { result ≡ fich_of_word (best_word means m.now FichBlock readings.now) }
-    ensures law { HeardFich means m.now readings.now None result }
+    ensures value { result ≡ fich_of_word (best_word M.means m.now FichBlock readings.now) }
+    ensures law { HeardFich M.means m.now readings.now None result }
 {
     let found = search(m, Block::Fich, readings, totals, numbers)?;
     fich_of_word(&found.word)
@@ -60,8 +60,8 @@ fn hear_fich<M: Measure>(
     totals: &mut [M::Total],
     numbers: &mut [u16],
 ) -> Result<Fich, Fault>
-    ensures value { result ≡ fich_answer means m.now readings.now (length totals.old) (length numbers.old) }
-    ensures law { HeardFich means m.now readings.now (frame_fault means m.now readings.now (length totals.old) (length numbers.old)) result }
+    ensures value { result ≡ fich_answer M.means m.now readings.now (length totals.old) (length numbers.old) }
+    ensures law { HeardFich M.means m.now readings.now (frame_fault M.means m.now readings.now (length totals.old) (length numbers.old)) result }
 {
     check_frame(m, readings, totals.len(), numbers.len())?;
     best_fich(m, readings, totals, numbers)
@@ -74,8 +74,8 @@ pub fn read_fich<M: Measure>(
     totals: &mut [M::Total],
     numbers: &mut [u16],
 ) -> Result<Fich, Fault>
-    ensures value { result ≡ fich_answer means m.now readings.now (length totals.old) (length numbers.old) }
-    ensures law { HeardFich means m.now readings.now (frame_fault means m.now readings.now (length totals.old) (length numbers.old)) result }
+    ensures value { result ≡ fich_answer M.means m.now readings.now (length totals.old) (length numbers.old) }
+    ensures law { HeardFich M.means m.now readings.now (frame_fault M.means m.now readings.now (length totals.old) (length numbers.old)) result }
 {
     hear_fich(m, readings, totals, numbers)
 }

@@ -32,7 +32,7 @@ fn weigh<M: Measure>(
     decisions: &mut [u16],
 )
     requires { (length readings.now ≡ 480) × ((length bank.old ≡ 16) × (length decisions.old ≡ length_of block)) }
-    ensures { Holds means m.now (reverse (heard block readings.now)) bank.new (reverse decisions.new) }
+    ensures { Holds M.means m.now (reverse (heard block readings.now)) bank.new (reverse decisions.new) }
 {
     bank[0] = m.start();
     for t in 0..decisions.len() {
@@ -94,7 +94,7 @@ fn find<M: Measure>(
     decisions: &mut [u16],
 ) -> Found<M::Total>
     requires { (length readings.now ≡ 480) × ((length totals.old ≡ 32) × (length decisions.old ≡ length_of block)) }
-    ensures { Answers means m.now block readings.now result }
+    ensures { Answers M.means m.now block readings.now result }
 {
     // A step makes its totals in memory of its own, so that one bank is enough.
     let bank = &mut totals[0..16];
@@ -130,7 +130,7 @@ pub fn search<M: Measure>(
     totals: &mut [M::Total],
     numbers: &mut [u16],
 ) -> Result<Found<M::Total>, Fault>
-    ensures { Searched means m.now block readings.now (size_fault (length readings.now) (length totals.old) (length numbers.old)) result }
+    ensures { Searched M.means m.now block readings.now (size_fault (length readings.now) (length totals.old) (length numbers.old)) result }
 {
     check_sizes(readings.len(), totals.len(), numbers.len())?;
     Ok(find(m, block, readings, totals, &mut numbers[0..block.dibits()]))

@@ -56,7 +56,7 @@ fn four_ways<M: Measure>(
     high: M::Total,
     plain: Dibit,
 ) -> [M::Total; 4]
-    ensures { result ≡ means.extend m.now low place reading.now plain ∷ means.extend m.now high place reading.now (turned plain) ∷ means.extend m.now low place reading.now (turned plain) ∷ means.extend m.now high place reading.now plain ∷ [] }
+    ensures { result ≡ M.means.extend m.now low place reading.now plain ∷ M.means.extend m.now high place reading.now (turned plain) ∷ M.means.extend m.now low place reading.now (turned plain) ∷ M.means.extend m.now high place reading.now plain ∷ [] }
 {
     let turned = turned_over(plain);
     let dibits = [plain, turned, turned, plain];
@@ -68,7 +68,7 @@ fn four_ways<M: Measure>(
 }
 
 fn pick<M: Measure>(m: &M, zero: M::Total, one: M::Total) -> (M::Total, bool)
-    ensures { result ≡ ((if means.better m.now one zero then one else zero), means.better m.now one zero) }
+    ensures { result ≡ ((if M.means.better m.now one zero then one else zero), M.means.better m.now one zero) }
 {
     let wins = m.better(one, zero);
     if wins { (one, wins) } else { (zero, wins) }
@@ -90,9 +90,9 @@ fn butterfly<M: Measure>(
     j: usize,
 ) -> Pair<M::Total>
     requires { (j < 8) × (length old.now ≡ 16) }
-    ensures even { result.even ≡ kept means m.now both (hears place reading.now) old.now (2 * j) }
-    ensures odd { result.odd ≡ kept means m.now both (hears place reading.now) old.now (2 * j + 1) }
-    ensures ones { result.ones ≡ (if one_wins means m.now (hears place reading.now) old.now (2 * j) then 1 else 0) + (if one_wins means m.now (hears place reading.now) old.now (2 * j + 1) then 2 else 0) }
+    ensures even { result.even ≡ kept M.means m.now both (hears place reading.now) old.now (2 * j) }
+    ensures odd { result.odd ≡ kept M.means m.now both (hears place reading.now) old.now (2 * j + 1) }
+    ensures ones { result.ones ≡ (if one_wins M.means m.now (hears place reading.now) old.now (2 * j) then 1 else 0) + (if one_wins M.means m.now (hears place reading.now) old.now (2 * j + 1) then 2 else 0) }
 {
     let ways = four_ways(m, place, reading, old[j], old[j + 8], output_of(j));
     let (even, a) = pick(m, ways[0], ways[1]);
@@ -121,8 +121,8 @@ fn advance<M: Measure>(
     new: &mut [M::Total],
 ) -> u16
     requires { (length old.now ≡ 16) × (length new.old ≡ 16) }
-    ensures totals { (s : ℕ) → s < 16 → at_bank means m.now new.new s ≡ kept means m.now both (hears place reading.now) old.now s }
-    ensures decisions { result ≡ packed (one_wins means m.now (hears place reading.now) old.now) 16 }
+    ensures totals { (s : ℕ) → s < 16 → at_bank M.means m.now new.new s ≡ kept M.means m.now both (hears place reading.now) old.now s }
+    ensures decisions { result ≡ packed (one_wins M.means m.now (hears place reading.now) old.now) 16 }
 {
     let mut decisions = 0;
     for j in 0..8usize {
@@ -150,7 +150,7 @@ fn step_at<M: Measure>(
     bank: &mut [M::Total],
 ) -> u16
     requires { (place < length readings.now) × (length bank.old ≡ 16) }
-    ensures { Stepped means m.now t place readings.now bank.old bank.new result }
+    ensures { Stepped M.means m.now t place readings.now bank.old bank.new result }
 {
     let both = all_reached(t);
     let mut own = [m.start(); 16];
@@ -169,7 +169,7 @@ pub(crate) fn step<M: Measure>(
     bank: &mut [M::Total],
 ) -> u16
     requires { (t < length_of block) × ((length readings.now ≡ 480) × (length bank.old ≡ 16)) }
-    ensures { Stepped means m.now t (stands block t) readings.now bank.old bank.new result }
+    ensures { Stepped M.means m.now t (stands block t) readings.now bank.old bank.new result }
 {
     step_at(m, t, block.place(t), readings, bank)
 }

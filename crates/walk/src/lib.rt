@@ -46,7 +46,7 @@ fn sync_dibit(k: usize) -> Dibit
 
 /// Whether a sync word starts at a place.
 fn starts_sync<M: Measure>(m: &M, readings: &[M::Reading], place: usize) -> bool
-    ensures { result ≡ synced means m.now readings.now place }
+    ensures { result ≡ synced M.means m.now readings.now place }
 {
     if place > readings.len() || readings.len() - place < SYNC_PLACES {
         return false;
@@ -68,7 +68,7 @@ fn frame_places(readings: usize) -> usize
 
 /// The first place from `from` on where a sync word starts and a frame's readings remain.
 fn hunt<M: Measure>(m: &M, readings: &[M::Reading], from: usize) -> Option<usize>
-    ensures value { result ≡ first_sync means m.now readings.now from }
+    ensures value { result ≡ first_sync M.means m.now readings.now from }
     ensures whole { IfSome result (λ place. place + 480 ≤ length readings.now) }
 {
     for place in from..frame_places(readings.len()) {
@@ -81,7 +81,7 @@ fn hunt<M: Measure>(m: &M, readings: &[M::Reading], from: usize) -> Option<usize
 
 /// The frame at the first sync word from `from` on.
 fn hunted<M: Measure>(m: &M, readings: &[M::Reading], from: usize) -> Option<(usize, bool)>
-    ensures value { result ≡ found (first_sync means m.now readings.now from) }
+    ensures value { result ≡ found (first_sync M.means m.now readings.now from) }
     ensures whole { IfSome result (λ t. (t.0 + 480 ≤ length readings.now) × (t.1 ≡ false)) }
 {
     match hunt(m, readings, from) {
@@ -98,7 +98,7 @@ fn next_place<M: Measure>(
     locked: bool,
     misses: u8,
 ) -> Option<(usize, bool)>
-    ensures value { result ≡ taken means m.now readings.now (record { place = place; locked = locked; misses = misses }) }
+    ensures value { result ≡ taken M.means m.now readings.now (record { place = place; locked = locked; misses = misses }) }
     ensures whole { IfSome result (λ t. (t.0 + 480 ≤ length readings.now) × (t.1 ≡ true → misses < 3)) }
 {
     if !locked {
@@ -163,11 +163,11 @@ impl<'a, R> Walk<'a, R> {
     }
 
     fn step<M: Measure<Reading = R>>(&mut self, m: &M) -> Option<Frame<'a, R>>
-        ensures value { seen result ≡ frame_taken means m.now self.old.readings.now (here self.old) }
-        ensures after { here self.new ≡ position_after means m.now self.old.readings.now (here self.old) }
+        ensures value { seen result ≡ frame_taken M.means m.now self.old.readings.now (here self.old) }
+        ensures after { here self.new ≡ position_after M.means m.now self.old.readings.now (here self.old) }
         ensures same { self.new.readings ≡ self.old.readings }
-        ensures law { Takes means m.now self.old.readings.now (here self.old) (here self.new) (seen result) }
-        ensures run { Runs means m.now self.old.readings.now (all_frames means m.now self.old.readings.now) }
+        ensures law { Takes M.means m.now self.old.readings.now (here self.old) (here self.new) (seen result) }
+        ensures run { Runs M.means m.now self.old.readings.now (all_frames M.means m.now self.old.readings.now) }
     {
         match next_place(m, self.readings, self.place, self.locked, self.misses) {
             Some((place, missed)) => Some(self.hand_out(place, missed)),
@@ -177,11 +177,11 @@ impl<'a, R> Walk<'a, R> {
 
     /// The next frame, or none at the end of the recording.
     pub fn next<M: Measure<Reading = R>>(&mut self, m: &M) -> Option<Frame<'a, R>>
-        ensures value { seen result ≡ frame_taken means m.now self.old.readings.now (here self.old) }
-        ensures after { here self.new ≡ position_after means m.now self.old.readings.now (here self.old) }
+        ensures value { seen result ≡ frame_taken M.means m.now self.old.readings.now (here self.old) }
+        ensures after { here self.new ≡ position_after M.means m.now self.old.readings.now (here self.old) }
         ensures same { self.new.readings ≡ self.old.readings }
-        ensures law { Takes means m.now self.old.readings.now (here self.old) (here self.new) (seen result) }
-        ensures run { Runs means m.now self.old.readings.now (all_frames means m.now self.old.readings.now) }
+        ensures law { Takes M.means m.now self.old.readings.now (here self.old) (here self.new) (seen result) }
+        ensures run { Runs M.means m.now self.old.readings.now (all_frames M.means m.now self.old.readings.now) }
     {
         self.step(m)
     }
