@@ -1,5 +1,6 @@
 //! The search with work memory of its own, for C to call.
 #![tactic(auto)]
+
 ghost use Rattle.std.specs.Prelude.{◌≡◌, ℕ, ◌/◌, length};
 ghost use Rattle.measure.specs.Marks.{marks_means};
 ghost use Rattle.measure.specs.Levels.{levels_means};

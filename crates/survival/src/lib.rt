@@ -1,5 +1,6 @@
 //! The word of a block, and how much damage to the block it survives.
 #![tactic(auto)]
+
 ghost use Rattle.std.specs.Prelude.{length};
 ghost use Rattle.measure.specs.Levels.{levels_means};
 ghost use Rattle.trellis.specs.Answers.{size_fault, Searched};

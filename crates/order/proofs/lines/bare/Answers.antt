@@ -1,6 +1,0 @@
-use Rattle.std.proofs.Common.{rules}
-use Rattle.std.proofs.lemmas.List.{get_or_past}
-use Rattle.order.proofs.lines.bare.Goals as goal
-
-pub returns-in-default : goal.returns-in-default
-returns-in-default c = search (rules, get_or_past)
