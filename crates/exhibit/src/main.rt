@@ -1,6 +1,7 @@
 //! Reads an order from standard input, one `key value` a line, and prints the header frame that it asks for:
 //! 240 hexadecimal digits, or with the argument `--raw` its 120 bytes.
 #![tactic(auto)]
+
 use anyhow::anyhow;
 use frame::header::write_header;
 use layout::FRAME_BYTES;

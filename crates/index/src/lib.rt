@@ -1,5 +1,6 @@
 //! Every frame of a recording, accepted or refused.
 #![tactic(auto)]
+
 ghost use Rattle.std.specs.Prelude.{◌≡◌, ◌++◌, length, None};
 ghost use Rattle.fault.specs.Faults.{refused_or};
 ghost use Rattle.trellis.specs.Answers.{size_fault};

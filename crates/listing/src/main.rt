@@ -1,6 +1,7 @@
 //! Lists every frame of a recording: reads marks from standard input, one a byte, and prints a line for each frame
 //! with its place, whether its sync word was missed, and the FICH that was read or why it was refused.
 #![tactic(auto)]
+
 use anyhow::anyhow;
 use entries::bounded::BoundedList;
 use entries::entry::{FaultEntry, FrameEntry};

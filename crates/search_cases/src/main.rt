@@ -4,6 +4,7 @@
 //! (length 0: none is), and the 480 readings. Marks are hexadecimal digits, levels decimal numbers between commas.
 //! The expected values were computed by an independent implementation.
 #![tactic(auto)]
+
 use anyhow::anyhow;
 use layout::Block;
 use measure::Measure;

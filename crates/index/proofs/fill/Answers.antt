@@ -86,7 +86,7 @@ returns g c =
     let inv = c.loop-frame.invariant in
     let frames = c.loop-frame.frames in
     let faults = c.loop-frame.faults in
-    let none = frames_end μ m readings q (subst (λ rs. None ≡ frame_taken μ m rs q) inv.0 c.in-default.ensures.value) in
+    let none = frames_end μ m readings q (subst (λ rs. None ≡ frame_taken μ m rs q) inv.0 c.in_default.ensures.value) in
     let all =
     done (capacity frames) (capacity faults) (listed frames) (listed faults) (map (frame_line μ m) (frames_after μ m readings q)) _ _ _ (ap (map (frame_line μ m)) none) inv.5 in
     record {
