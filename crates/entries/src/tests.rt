@@ -57,5 +57,5 @@ fn a_full_list_stays(rt: HostRuntime) {
     let mut list = BoundedList::new(&mut slots);
     assert!(rt; list.push(7).is_ok() && list.push(8).is_ok());
     assert!(rt; list.push(9).is_err());
-    assert!(rt; list.entries() == [7, 8]);
+    assert!(rt; list.entries() == [7, 8].as_slice());
 }

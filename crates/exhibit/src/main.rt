@@ -9,6 +9,7 @@ use order::Order;
 use std::alloc::Global;
 use std::env;
 use std::io::{Read, Write};
+use std::process::ExitCode;
 
 /// Whether the frame is wanted as bytes.
 fn wants_raw(rt: &HostRuntime) -> anyhow::Result<bool> {
@@ -77,10 +78,10 @@ fn run(rt: &HostRuntime) -> anyhow::Result<()> {
     Ok(())
 }
 
-fn main(rt: HostRuntime) -> anyhow::Result<()> {
-    let done = run(&rt);
-    if let Err(error) = &done {
+fn main(rt: HostRuntime) -> anyhow::Result<ExitCode> {
+    if let Err(error) = run(&rt) {
         eprintln!(rt; "exhibit: {error}")?;
+        return Ok(ExitCode::FAILURE);
     }
-    done
+    Ok(ExitCode::SUCCESS)
 }

@@ -14,7 +14,7 @@ use Rattle.fields.specs.declared.fich.Fich.{Fich as FichFields}
 use Rattle.layout.specs.declared.Block.TheVariants.{Fich, First, Second}
 use Rattle.layout.specs.Places.{sync_word, stands, length_of}
 use Rattle.frame.specs.Coding.{dibit_at, interleaved, block_bytes, by_turns}
-use Rattle.frame.specs.Header.{fich_inputs, unit_inputs, first_data, second_data, fich_block, unit_block, paired_units, header_frame, Carries, HeaderOf, Laid_out}
+use Rattle.frame.specs.Header.{fich_inputs, unit_inputs, first_data, second_data, fich_block, unit_block, paired_units, header_frame, Carries, HeaderOf, LaidOut}
 use Rattle.frame.proofs.Turns.{length-by_turns, get_or-first, get_or-second, dibits_by_turns}
 
 pub length-block_bytes : (m : ℕ) (inputs : List ℕ) → length (block_bytes m inputs) ≡ 5 * m
@@ -116,7 +116,7 @@ module _ (f : FichFields) (message : List ℕ) where
       ∙ ap (λ n. get_or (dibits_of two) n D00) (omega arith)
       ∙ block_at 9 (unit_inputs (second_data message)) j i below (omega arith)
 
-pub laid_out : Laid_out
+pub laid_out : LaidOut
 laid_out f message =
     record {
       sized = frame_size f message;

@@ -77,5 +77,5 @@ pub record HeaderOf (f : FichFields) (message : List ℕ) (frame : List ℕ) : T
   pub second : Carries frame Second (unit_inputs (second_data message))
 
 -- every message makes such a frame
-abbrev pub Laid_out : Type 0
-Laid_out = (f : FichFields) (message : List ℕ) → HeaderOf f message (header_frame f message)
+abbrev pub LaidOut : Type 0
+LaidOut = (f : FichFields) (message : List ℕ) → HeaderOf f message (header_frame f message)

@@ -5,7 +5,7 @@ ghost use Rattle.fault.specs.Faults.{refused_or};
 ghost use Rattle.fields.specs.Settings.{checked_header};
 ghost use Rattle.golay.specs.Golay.{golay};
 ghost use Rattle.frame.specs.Coding.{by_turns};
-ghost use Rattle.frame.specs.Header.{golay_words, fich_inputs, fich_block, unit_block, paired_units, header_frame, length_fault, header_fault, frame_after, Laid_out};
+ghost use Rattle.frame.specs.Header.{golay_words, fich_inputs, fich_block, unit_block, paired_units, header_frame, length_fault, header_fault, frame_after, LaidOut};
 ghost use Rattle.frame.specs.Known.{KnownValues};
 
 use crate::coding::{fill_block, fill_unit};
@@ -127,7 +127,7 @@ fn check_lengths(frame: usize, message: usize) -> Result<(), Fault>
 fn write_checked(frame: &mut [u8], message: &[u8], fich: Result<Fich, Fault>) -> Result<(), Fault>
     ensures value { result ≡ refused_or (header_fault fich (length frame.old) (length message.now)) tt }
     ensures after { frame.new ≡ frame_after fich message.now frame.old }
-    ensures layout { Laid_out }
+    ensures layout { LaidOut }
     ensures known { KnownValues }
 {
     let fich = fich?;
@@ -146,7 +146,7 @@ pub fn write_header(
 ) -> Result<(), Fault>
     ensures value { result ≡ refused_or (header_fault (checked_header settings.now mode) (length frame.old) (length message.now)) tt }
     ensures after { frame.new ≡ frame_after (checked_header settings.now mode) message.now frame.old }
-    ensures layout { Laid_out }
+    ensures layout { LaidOut }
     ensures known { KnownValues }
 {
     write_checked(frame, message, settings.header(mode))

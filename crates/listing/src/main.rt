@@ -12,6 +12,7 @@ use index::index;
 use measure::marks::Marks;
 use std::alloc::Global;
 use std::io::Read;
+use std::process::ExitCode;
 
 /// The most readings that a recording has.
 const READINGS: usize = 57_600;
@@ -122,10 +123,10 @@ fn run(rt: &HostRuntime) -> anyhow::Result<()> {
     list(rt, &readings)
 }
 
-fn main(rt: HostRuntime) -> anyhow::Result<()> {
-    let done = run(&rt);
-    if let Err(error) = &done {
+fn main(rt: HostRuntime) -> anyhow::Result<ExitCode> {
+    if let Err(error) = run(&rt) {
         eprintln!(rt; "listing: {error}")?;
+        return Ok(ExitCode::FAILURE);
     }
-    done
+    Ok(ExitCode::SUCCESS)
 }

@@ -31,10 +31,10 @@ fn texts_stand_in_their_fields(rt: HostRuntime) -> Result<(), Fail> {
         b"rem4 z",
     ];
     let order = made(&lines)?;
-    assert!(rt; &order.message[0..20] == b"CQ CQ     1234567890");
-    assert!(rt; &order.message[20..40] == b"          x y       ");
-    assert!(rt; &order.message[40..60] == b"12345b         z    ");
-    assert!(rt; &order.message[60..65] == b"     ");
+    assert!(rt; &order.message[0..20] == b"CQ CQ     1234567890".as_slice());
+    assert!(rt; &order.message[20..40] == b"          x y       ".as_slice());
+    assert!(rt; &order.message[40..60] == b"12345b         z    ".as_slice());
+    assert!(rt; &order.message[60..65] == b"     ".as_slice());
     Ok(())
 }
 
