@@ -1,12 +1,12 @@
 -- A shift register divides: fed a list of bits it holds the remainder that long division leaves.
-use Rattle.std.proofs.Common.{◌≡◌, ℕ, zero, suc, ◌+◌, ◌*◌, ◌/◌, ◌%◌, ◌^◌, ◌<◌, ◌≤◌, Bool, true, false, cond, not, eqb, leb, List, [], ◌∷◌, ◌++◌, length, replicate, sym, refl, ap, ◌∙◌, subst, append_assoc, append-nil, arith, length-append}
+use Rattle.std.proofs.Common.{◌≡◌, ℕ, zero, suc, ◌+◌, ◌*◌, ◌/◌, ◌%◌, ◌^◌, ◌<◌, ◌≤◌, Bool, true, false, cond, not, eqb, leb, List, [], ◌∷◌, ◌++◌, length, replicate, sym, refl, ap, ◌∙◌, subst, append_assoc, arith, length-append}
 use mathlib.Core.Bool.{beq}
 use lib.ListN.{length-replicate, replicate-append-replicate}
 use Rattle.std.proofs.lemmas.Bool.{cond_both, leb-true, leb-false}
 use Rattle.bits.specs.Bits.{◌⊕◌, Bits, bits_of, plus}
 use Rattle.bits.specs.Division.{divided, remainder, shifted, fed}
 use Rattle.bits.proofs.Numbers.{bits-append, bits_of_twice}
-use Rattle.bits.proofs.Sums.{length-plus, bits-plus, bits-replicate, plus_nil, plus-plus, plus_zeros, zeros_plus, plus_then_zeros, plus-before}
+use Rattle.bits.proofs.Sums.{length-plus, bits-plus, bits-replicate, plus-plus, plus_zeros, zeros_plus, plus_then_zeros, plus-before}
 
 pub length-shifted : (g register : List ℕ) (b : ℕ) → length (shifted g register b) ≡ length register
 unfolding shifted

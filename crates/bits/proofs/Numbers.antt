@@ -1,5 +1,5 @@
 -- A number and its bits: each way and back, cut in two, and one bit of many.
-use Rattle.std.proofs.Common.{◌≡◌, ℕ, zero, suc, ◌+◌, ◌-◌, ◌*◌, ◌/◌, ◌%◌, ◌^◌, ◌<◌, ◌≤◌, cond, eqb, List, [], ◌∷◌, ◌++◌, length, get_or, take, drop, sym, refl, ap, ◌∙◌, subst, ⊎_elim, append_assoc, add-zero, add_assoc, add-suc, mod-lt, mod-eq_of_lt, mul_assoc, mul_comm, add-mul, add_comm, suc-add, pow-suc, mul-zero, zero-add, mul-suc, add-one, one-add, arith, length-append, length-drop, length-take-le, drop-drop, take_at, take-add, drop_at, pow_pos, pow-add, shr-shr}
+use Rattle.std.proofs.Common.{◌≡◌, ℕ, zero, suc, ◌+◌, ◌*◌, ◌/◌, ◌%◌, ◌^◌, ◌<◌, ◌≤◌, cond, eqb, List, [], ◌∷◌, ◌++◌, length, get_or, take, drop, sym, refl, ap, ◌∙◌, ⊎_elim, append_assoc, add_assoc, mod-lt, mod-eq_of_lt, mul_assoc, mul_comm, add-mul, add_comm, suc-add, pow-suc, mul-zero, zero-add, mul-suc, add-one, one-add, arith, length-append, length-drop, length-take-le, drop-drop, take_at, take-add, drop_at, pow_pos, shr-shr}
 use native.Mathlib.Nat.{mul-add-div_right}
 use lib.Pow.{split, high, mod-pow-add}
 use Rattle.std.proofs.lemmas.Nat.{mul-le}

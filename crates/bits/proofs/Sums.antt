@@ -1,6 +1,6 @@
 -- Sums of bit lists, and how they meet exclusive or on numbers.
-use Rattle.std.proofs.Common.{◌≡◌, ℕ, zero, suc, ◌+◌, ◌*◌, ◌/◌, ◌%◌, ◌^◌, ◌<◌, ◌≤◌, List, [], ◌∷◌, ◌++◌, length, replicate, sym, refl, ap, ◌∙◌, mod-lt, arith}
-use lib.Bits.{bit_xor, bit_and, xor_shr, xor_add_and}
+use Rattle.std.proofs.Common.{◌≡◌, ℕ, zero, suc, ◌+◌, ◌/◌, ◌%◌, ◌^◌, ◌≤◌, List, [], ◌∷◌, ◌++◌, length, replicate, sym, refl, ap, ◌∙◌, mod-lt, arith}
+use lib.Bits.{bit_xor, xor_shr, xor_add_and}
 use Rattle.bits.specs.Bits.{◌⊕◌, Bits, bits_of, plus}
 
 pub length-plus : (xs ys : List ℕ) → length (plus xs ys) ≡ length xs

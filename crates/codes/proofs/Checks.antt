@@ -1,5 +1,5 @@
 -- The checksum by its register.
-use Rattle.std.proofs.Common.{◌≡◌, ℕ, zero, suc, ◌+◌, ◌-◌, ◌/◌, ◌%◌, ◌^◌, ◌<◌, List, [], ◌∷◌, ◌++◌, length, get_or, drop, replicate, sym, refl, ap, ◌∙◌, mod-lt, arith}
+use Rattle.std.proofs.Common.{◌≡◌, ℕ, suc, ◌+◌, ◌<◌, List, [], ◌∷◌, ◌++◌, length, get_or, drop, replicate, sym, refl, ap, ◌∙◌, mod-lt, arith}
 use lib.Bits.{bit_xor, xor_lt}
 use Rattle.std.proofs.lemmas.List.{at_drop_more}
 use Rattle.bits.specs.Bits.{◌⊕◌, Bits, bits_of, number_of, byte_bits, plus}
@@ -7,7 +7,7 @@ use Rattle.bits.specs.Division.{remainder, shifted, fed}
 use Rattle.bits.proofs.Numbers.{length-bits_of, bits-byte_bits, number_bits}
 use Rattle.bits.proofs.Sums.{bits_of_xor}
 use Rattle.bits.proofs.Divides.{remainder-fed}
-use Rattle.codes.specs.Crc.{crc_generator, all_inverted, check_bits, crc}
+use Rattle.codes.specs.Crc.{crc_generator, all_inverted}
 
 pub fed-append : (g register xs ys : List ℕ) → fed g register (xs ++ ys) ≡ fed g (fed g register xs) ys
 unfolding fed

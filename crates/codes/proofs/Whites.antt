@@ -1,11 +1,11 @@
 -- The whitening by its register of nine bits: the rule that it follows, and a byte at a time.
-use Rattle.std.proofs.Common.{◌≡◌, ℕ, zero, suc, ◌+◌, ◌*◌, ◌/◌, ◌%◌, ◌^◌, ◌<◌, ◌≤◌, List, [], ◌∷◌, ◌++◌, length, get_or, take, drop, set, sym, refl, ap, ◌∙◌, add_comm, suc-add, zero-add, arith, length-append, take_all, drop-set-lt}
+use Rattle.std.proofs.Common.{◌≡◌, ℕ, zero, suc, ◌+◌, ◌*◌, ◌/◌, ◌%◌, ◌^◌, ◌<◌, ◌≤◌, List, [], ◌∷◌, ◌++◌, length, get_or, take, drop, set, sym, refl, ap, ◌∙◌, suc-add, zero-add, arith, length-append, take_all, drop-set-lt}
 use lib.Bits.{bit_xor, xor_lt}
 use lib.Seq.{take-nil}
 use Rattle.std.proofs.lemmas.List.{drop_more, at_drop_all, take_more_set, append_assoc, append-nil}
-use Rattle.bits.specs.Bits.{◌⊕◌, bits_of, number_of, byte_bits, numbers_of, plus}
-use Rattle.bits.proofs.Numbers.{length-bits_of, bits_of_mod, bits_of_cat, get_or-bits_of, number_bits, numbers_of_cons, numbers_of_none}
-use Rattle.bits.proofs.Sums.{length-plus, plus-append, bits_of_xor}
+use Rattle.bits.specs.Bits.{◌⊕◌, bits_of, byte_bits, numbers_of, plus}
+use Rattle.bits.proofs.Numbers.{length-bits_of, bits_of_mod, bits_of_cat, number_bits, numbers_of_cons, numbers_of_none}
+use Rattle.bits.proofs.Sums.{plus-append, bits_of_xor}
 use Rattle.codes.specs.Whitening.{first_nine, onward, leading_bit, further, whites, whitening, whitened, Recurs}
 
 further_add : (j k : ℕ) (s : List ℕ) → further (j + k) s ≡ further k (further j s)

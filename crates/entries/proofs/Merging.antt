@@ -1,12 +1,12 @@
 -- What a merge keeps, and how lines that were split come back.
-use Rattle.std.proofs.Common.{◌≡◌, ℕ, ◌+◌, ◌<◌, ◌≤◌, true, false, cond, leb, List, [], ◌∷◌, ◌++◌, map, length, Some, None, refl, ap, ◌∙◌, subst, arith, le-leb, leb-false, leb-true}
+use Rattle.std.proofs.Common.{◌≡◌, ℕ, ◌+◌, ◌<◌, ◌≤◌, leb, List, [], ◌∷◌, ◌++◌, length, Some, refl, ap, ◌∙◌, arith, le-leb, leb-false, leb-true}
 use borrow.Author.Tests.{lt-leb}
 use Rattle.std.proofs.lemmas.Bool.{cond-true, cond-false, cond_both}
 use Rattle.entries.specs.declared.entry.FrameEntry.{FrameEntry}
 use Rattle.entries.specs.declared.entry.FaultEntry.{FaultEntry}
 use Rattle.entries.specs.declared.entry.Line.{Line}
 use Rattle.entries.specs.declared.entry.Line.TheVariants.{Accepted, Refused}
-use Rattle.entries.specs.Lines.{first_of, rest_of, merged, accepted, refused, place_of, frame_places, fault_places, line_places, Spaced, Ascends, HoldsBoth, SplitsBack}
+use Rattle.entries.specs.Lines.{first_of, rest_of, merged, accepted, refused, frame_places, fault_places, line_places, Spaced, HoldsBoth, SplitsBack}
 
 -- a larger gap and a higher start say more
 pub spaced_less : (gap less low lower : ℕ) (places : List ℕ) → less ≤ gap → lower ≤ low → Spaced gap low places → Spaced less lower places

@@ -1,5 +1,5 @@
 -- The number and the detail of each refusal, and what a call that may refuse answers and leaves.
-use Rattle.std.specs.Prelude.{ℕ, List, Some, None, Ok, Err, Option, Result}
+use Rattle.std.specs.Prelude.{ℕ, Some, None, Ok, Err, Option, Result}
 use Rattle.fault.specs.declared.Memory.{Memory}
 use Rattle.fault.specs.declared.Memory.TheVariants.{Readings, Record, Totals, Numbers}
 use Rattle.fault.specs.declared.Field.{Field}

@@ -14,7 +14,7 @@ use Rattle.fields.specs.declared.fich.DataType.{DataType}
 use Rattle.fields.specs.declared.fich.DataType.TheVariants.{VdType1, DataFr, VdType2, VoiceFr}
 use Rattle.fields.specs.declared.fich.Fich.{Fich}
 use Rattle.fields.specs.Fields.{kind_value, call_value, routing_value, type_value, flag_value, fich_bytes}
-use Rattle.fields.specs.Numbers.{addressing_number, counting_number, signalling_number, squelch_number, fich_numbers}
+use Rattle.fields.specs.Numbers.{counting_number, squelch_number, fich_numbers}
 use Rattle.fields.specs.Settings.{call_of, routing_of}
 use Rattle.fields.specs.Received.{fi, cs, cm, bn, bt, fn, ft, mr, kind_of, type_of, fields_fault, fields_of, fich_read, Sendable, Inverse}
 use Rattle.fields.proofs.Parts.{kind_below, call_below, routing_below, type_below, flag_below, numbers_bytes}

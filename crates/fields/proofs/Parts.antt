@@ -1,5 +1,5 @@
 -- A byte of fields, as the bits of its fields.
-use Rattle.std.proofs.Common.{◌≡◌, ℕ, ◌+◌, ◌*◌, ◌%◌, ◌^◌, ◌<◌, Bool, true, false, List, [], ◌∷◌, ◌++◌, sym, refl, ap, ◌∙◌, append-nil, arith}
+use Rattle.std.proofs.Common.{◌≡◌, ℕ, ◌+◌, ◌*◌, ◌%◌, ◌^◌, ◌<◌, Bool, true, false, List, ◌++◌, sym, refl, ap, ◌∙◌, append-nil, arith}
 use Rattle.bits.specs.Bits.{bits_of, byte_bits, numbers_of}
 use Rattle.bits.proofs.Numbers.{bits_of_cat, bits_of_mod, numbers_of-byte_bits}
 use Rattle.fields.specs.declared.fich.FrameKind.{FrameKind}

@@ -2,7 +2,6 @@
 use Rattle.std.specs.Prelude.{◌≡◌, ℕ, ◌/◌, ◌%◌, ◌<◌, ◌≤◌, cond, List, Some, None, Ok, Option, Result, ◌==◌, nat_lt, slice_index}
 use Rattle.fault.specs.declared.Fault.{Fault}
 use Rattle.fault.specs.declared.Fault.TheVariants.{FieldNotAllowed}
-use Rattle.fault.specs.declared.Field.{Field}
 use Rattle.fault.specs.declared.Field.TheVariants.{FrameKind as KindRule, Callsigns as CallsignsRule, CallMode as CallRule, BlockNumber as BlockRule, FrameNumber as FrameRule, Routing as RoutingRule}
 use Rattle.fault.specs.Faults.{refused_or}
 use Rattle.fields.specs.declared.fich.FrameKind.{FrameKind}

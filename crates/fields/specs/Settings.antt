@@ -1,5 +1,5 @@
 -- Which settings a sender may choose, and the FICH of the header that they make.
-use Rattle.std.specs.Prelude.{ℕ, zero, suc, Bool, true, false, cond, not, ◌&&◌, Ok, Err, Result, ◌==◌, nat_lt}
+use Rattle.std.specs.Prelude.{ℕ, Bool, false, cond, not, ◌&&◌, Ok, Err, Result, ◌==◌, nat_lt}
 use Rattle.fault.specs.declared.Fault.{Fault}
 use Rattle.fault.specs.declared.Fault.TheVariants.{SettingNotAllowed}
 use Rattle.fields.specs.declared.fich.FrameKind.TheVariants.{Header}

@@ -1,10 +1,8 @@
 -- A header frame carries its blocks: each coded dibit stands at its place.
-use Rattle.std.proofs.Common.{◌≡◌, ℕ, ◌+◌, ◌*◌, ◌/◌, ◌%◌, ◌<◌, ◌≤◌, List, [], ◌∷◌, ◌++◌, map, length, get_or, sym, refl, ap, ◌∙◌, arith, length-append}
-use lib.ListN.{length-map}
+use Rattle.std.proofs.Common.{◌≡◌, ℕ, ◌+◌, ◌*◌, ◌/◌, ◌%◌, ◌<◌, ◌≤◌, List, ◌++◌, map, length, get_or, refl, ap, ◌∙◌, arith, length-append}
 use Rattle.std.specs.List.{range_with_len}
-use Rattle.std.proofs.lemmas.List.FromFn.{length-map-range_with_len, get_or-map-range_with_len, length-range_with_len}
+use Rattle.std.proofs.lemmas.List.FromFn.{length-map-range_with_len, get_or-map-range_with_len}
 use Rattle.std.proofs.lemmas.List.{get_or_append_left, get_or-append_right}
-use Rattle.bits.specs.declared.Dibit.{Dibit}
 use Rattle.bits.specs.declared.Dibit.TheVariants.{D00}
 use Rattle.bits.specs.Dibits.{dibit_bytes, dibits_of, byte_by}
 use Rattle.bits.proofs.Packing.{dibits_of-append, dibits_of_bytes, length-dibits_of, bytes_by}
@@ -12,9 +10,9 @@ use Rattle.codes.specs.Convolution.{coded}
 use Rattle.codes.specs.Interleaving.{place_of, item_at}
 use Rattle.fields.specs.declared.fich.Fich.{Fich as FichFields}
 use Rattle.layout.specs.declared.Block.TheVariants.{Fich, First, Second}
-use Rattle.layout.specs.Places.{sync_word, stands, length_of}
+use Rattle.layout.specs.Places.{sync_word}
 use Rattle.frame.specs.Coding.{dibit_at, interleaved, block_bytes, by_turns}
-use Rattle.frame.specs.Header.{fich_inputs, unit_inputs, first_data, second_data, fich_block, unit_block, paired_units, header_frame, Carries, HeaderOf, LaidOut}
+use Rattle.frame.specs.Header.{fich_inputs, unit_inputs, first_data, second_data, fich_block, unit_block, paired_units, header_frame, Carries, LaidOut}
 use Rattle.frame.proofs.Turns.{length-by_turns, get_or-first, get_or-second, dibits_by_turns}
 
 pub length-block_bytes : (m : ℕ) (inputs : List ℕ) → length (block_bytes m inputs) ≡ 5 * m

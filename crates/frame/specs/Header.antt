@@ -1,5 +1,5 @@
 -- The header frame: sync word, FICH, and the callsigns of a message in two units by turns.
-use Rattle.std.specs.Prelude.{◌≡◌, ℕ, zero, suc, ◌<◌, cond, List, [], ◌∷◌, ◌++◌, length, take, drop, Some, None, Ok, Err, Option, Result, ◌==◌, slice_index_or}
+use Rattle.std.specs.Prelude.{◌≡◌, ℕ, zero, suc, ◌<◌, cond, List, [], ◌++◌, length, take, drop, Some, None, Ok, Err, Option, Result, ◌==◌, slice_index_or}
 use Rattle.bits.specs.declared.Dibit.TheVariants.{D00}
 use Rattle.bits.specs.Bits.{byte_bits}
 use Rattle.bits.specs.Dibits.{dibits_of}

@@ -1,5 +1,5 @@
 -- Values that the codes must give, as they are published: what the definitions mean, on examples.
-use Rattle.std.specs.Prelude.{◌≡◌, ℕ, List, [], ◌∷◌}
+use Rattle.std.specs.Prelude.{◌≡◌, [], ◌∷◌}
 use Rattle.bits.specs.declared.Dibit.TheVariants.{D01, D10, D11}
 use Rattle.codes.specs.Convolution.{coded}
 use Rattle.codes.specs.Crc.{crc}

@@ -1,6 +1,6 @@
 -- The extended Golay code (24,12,8). A codeword is twelve data bits, the remainder that they leave eleven places up when
 -- they are divided by the polynomial with the powers 11, 10, 6, 5, 4, 2 and 0, and one bit that makes the number of ones even.
-use Rattle.std.specs.Prelude.{◌≡◌, ℕ, ◌+◌, ◌*◌, ◌%◌, ◌<◌, ◌≤◌, cond, List, [], ◌∷◌, ◌++◌, Ok, Err, Result, ◌≢◌, bit_xor, count_ones, nat_le}
+use Rattle.std.specs.Prelude.{ℕ, ◌+◌, ◌*◌, ◌%◌, ◌<◌, ◌≤◌, cond, List, [], ◌∷◌, ◌++◌, Ok, Err, Result, ◌≢◌, bit_xor, count_ones, nat_le}
 use Rattle.bits.specs.Bits.{bits_of, number_of}
 use Rattle.bits.specs.Division.{remainder}
 use Rattle.fault.specs.declared.Fault.{Fault}

@@ -1,14 +1,11 @@
 -- One more line for two lists, and what is then left to do.
-use Rattle.std.proofs.Common.{◌≡◌, ℕ, ◌+◌, ◌-◌, ◌<◌, ◌≤◌, Bool, true, false, cond, eqb, leb, List, [], ◌∷◌, ◌++◌, length, Some, None, Ok, Err, Option, Result, sym, refl, ap, ◌∙◌, append_assoc, append-nil, arith}
-use Rattle.std.proofs.lemmas.List.{length_push}
-use Rattle.std.proofs.lemmas.Bool.{eqb-true, eqb-false, cond_both}
+use Rattle.std.proofs.Common.{◌≡◌, ℕ, ◌-◌, Bool, true, false, cond, eqb, leb, List, [], ◌∷◌, ◌++◌, length, Some, None, Ok, Err, Option, Result, sym, refl, ap, ◌∙◌, append-nil, arith}
 use Rattle.std.proofs.lemmas.Bool.Decides.{nat_tests}
 use Rattle.fault.specs.declared.Fault.{Fault}
 use Rattle.fault.specs.declared.Fault.TheVariants.{ListFull}
-use Rattle.fault.specs.Faults.{refused_or, unless}
+use Rattle.fault.specs.Faults.{unless}
 use Rattle.entries.specs.declared.entry.FrameEntry.{FrameEntry}
 use Rattle.entries.specs.declared.entry.FaultEntry.{FaultEntry}
-use Rattle.entries.specs.declared.entry.Line.{Line}
 use Rattle.entries.specs.declared.entry.Line.TheVariants.{Accepted, Refused}
 use Rattle.entries.specs.Lines.{accepted, refused}
 use Rattle.entries.specs.declared.bounded.BoundedList.{BoundedList}

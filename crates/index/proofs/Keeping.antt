@@ -1,6 +1,6 @@
 -- Which lines an index keeps.
-use Rattle.std.proofs.Common.{◌≡◌, ℕ, ◌+◌, ◌-◌, ◌<◌, ◌≤◌, Bool, true, false, cond, eqb, ◌⊎◌, List, [], ◌∷◌, ◌++◌, map, length, Some, None, Ok, Err, Option, Result, sym, refl, ap, ◌∙◌, subst, inl, inr, ⊎_elim, arith}
-use Rattle.std.proofs.lemmas.Bool.{eqb-true, eqb-false, cond_both, cond-true, cond-false, cases_Bool}
+use Rattle.std.proofs.Common.{◌≡◌, ℕ, ◌+◌, ◌-◌, ◌≤◌, Bool, true, cond, eqb, List, [], ◌∷◌, map, length, Some, None, Ok, Err, Option, Result, sym, refl, ap, ◌∙◌, subst, ⊎_elim, arith}
+use Rattle.std.proofs.lemmas.Bool.{eqb-true, eqb-false, cond_both, cond-true, cases_Bool}
 use Rattle.fault.specs.declared.Fault.{Fault}
 use Rattle.fault.specs.declared.Fault.TheVariants.{ListFull}
 use Rattle.fields.specs.declared.fich.Fich.{Fich}
@@ -11,7 +11,7 @@ use Rattle.entries.specs.declared.entry.FrameEntry.{FrameEntry}
 use Rattle.entries.specs.declared.entry.FaultEntry.{FaultEntry}
 use Rattle.entries.specs.declared.entry.Line.{Line}
 use Rattle.entries.specs.declared.entry.Line.TheVariants.{Accepted, Refused}
-use Rattle.entries.specs.Lines.{accepted, refused, merged, place_of, line_places, Spaced, SplitsBack}
+use Rattle.entries.specs.Lines.{accepted, refused, place_of, line_places, Spaced, SplitsBack}
 use Rattle.index.specs.Index.{line_of, frame_line, recorded, fitting, full_fault, NoRoomFor, LeftOut, Indexed}
 use Rattle.index.proofs.Going.{fit_accepted, fit_refused, go_accepted, go_refused}
 

@@ -1,5 +1,5 @@
 -- Four Golay words, one after the other.
-use Rattle.std.proofs.Common.{◌≡◌, ℕ, List, [], ◌∷◌, length, get_or, Ok, Err, Result, sym, refl, ap, ◌∙◌}
+use Rattle.std.proofs.Common.{◌≡◌, ℕ, List, [], ◌∷◌, length, get_or, Ok, Result, sym, ap}
 use Rattle.fault.specs.declared.Fault.{Fault}
 use Rattle.golay.specs.Nearest.{nearest}
 use Rattle.frame.proofs.Words.{listed_is}

@@ -1,5 +1,5 @@
 -- Bytes cut into groups of three, each a number of 24 bits.
-use Rattle.std.proofs.Common.{◌≡◌, ℕ, zero, suc, ◌+◌, ◌*◌, ◌%◌, ◌^◌, ◌<◌, ◌≤◌, List, [], ◌∷◌, ◌++◌, length, get_or, take, drop, sym, refl, ap, ◌∙◌, append-nil, add_comm, suc-add, mul-zero, mul-suc, arith}
+use Rattle.std.proofs.Common.{◌≡◌, ℕ, zero, suc, ◌+◌, ◌*◌, ◌<◌, ◌≤◌, List, [], ◌∷◌, ◌++◌, length, get_or, take, drop, sym, refl, ap, ◌∙◌, append-nil, add_comm, suc-add, mul-zero, mul-suc, arith}
 use Rattle.std.proofs.lemmas.List.{take_all, take-take, drop_all, drop-take, drop-drop, drop_at, drop_more}
 use Rattle.bits.specs.Bits.{bits_of, number_from, number_of, byte_bits, numbers_of}
 use Rattle.bits.proofs.Numbers.{length-bits_of, number_from-append, number_of-bits_of}

@@ -1,5 +1,5 @@
 -- A FICH that was sent comes back from its own word.
-use Rattle.std.proofs.Common.{◌≡◌, ℕ, zero, suc, ◌+◌, ◌*◌, ◌/◌, ◌%◌, ◌^◌, ◌<◌, ◌≤◌, eqb, List, [], ◌∷◌, ◌++◌, length, take, drop, Some, Ok, Err, sym, refl, ap, ◌∙◌, subst, append_assoc, append-nil, arith}
+use Rattle.std.proofs.Common.{◌≡◌, ℕ, zero, suc, ◌+◌, ◌*◌, ◌/◌, ◌%◌, ◌^◌, ◌<◌, ◌≤◌, eqb, List, [], ◌∷◌, ◌++◌, length, take, drop, Some, Ok, Err, sym, refl, ap, ◌∙◌, subst, append-nil, arith}
 use lib.Bits.{xor_self}
 use lib.Count.{ones}
 use Rattle.std.specs.List.{flat_map}
@@ -22,7 +22,7 @@ use Rattle.golay.specs.Nearest.{nearest}
 use Rattle.golay.proofs.Linear.{length-golay, bits-golay}
 use Rattle.golay.proofs.Unique.{only_one, near_is}
 use Rattle.trellis.specs.Words.{Word}
-use Rattle.receive.specs.Words.{data_read, before, golay_data, six_bytes, checked_fich, fich_of_data, fich_of_word}
+use Rattle.receive.specs.Words.{data_read, before, golay_data, checked_fich, fich_of_data, fich_of_word}
 
 -- ---- Golay words that nothing happened to
 

@@ -1,6 +1,5 @@
 -- Six bytes and four groups of twelve bits.
-use Rattle.std.proofs.Common.{◌≡◌, ℕ, ◌+◌, ◌*◌, ◌/◌, ◌%◌, ◌^◌, ◌<◌, eqb, List, [], ◌∷◌, ◌++◌, length, get_or, take, sym, refl, ap, ◌∙◌, append_assoc, append-nil, arith}
-use Rattle.std.specs.List.{flat_map}
+use Rattle.std.proofs.Common.{◌≡◌, ℕ, ◌+◌, ◌*◌, ◌/◌, ◌%◌, ◌^◌, eqb, List, [], ◌∷◌, ◌++◌, length, get_or, take, sym, ap, ◌∙◌, append_assoc, append-nil, arith}
 use Rattle.bits.specs.Bits.{bits_of, byte_bits, numbers_of}
 use Rattle.bits.proofs.Numbers.{bits_of_mod, numbers_of-byte_bits}
 use Rattle.codes.specs.Crc.{crc}

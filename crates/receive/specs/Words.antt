@@ -1,5 +1,5 @@
 -- The FICH that a word says. Its 96 inputs are four Golay words; their data are the FICH and its checksum.
-use Rattle.std.specs.Prelude.{◌≡◌, ℕ, suc, ◌+◌, ◌*◌, ◌<◌, cond, List, [], ◌∷◌, take, Some, None, Ok, Err, Option, Result, ◌==◌, slice_index}
+use Rattle.std.specs.Prelude.{ℕ, suc, ◌+◌, ◌*◌, cond, List, [], ◌∷◌, take, Some, None, Ok, Err, Option, Result, ◌==◌, slice_index}
 use Rattle.std.specs.List.{flat_map}
 use Rattle.bits.specs.Bits.{bits_of, numbers_of}
 use Rattle.codes.specs.Crc.{crc}

@@ -4,7 +4,7 @@ use Rattle.std.proofs.Common.{◌≡◌, ℕ, ◌+◌, ◌-◌, ◌*◌, ◌<◌
 use Rattle.std.proofs.lemmas.Bool.{cases_eq}
 use Rattle.bits.specs.Bits.{◌⊕◌, Bits}
 use Rattle.bits.specs.declared.Dibit.{Dibit}
-use Rattle.codes.specs.Convolution.{symbol, coded_after, coded}
+use Rattle.codes.specs.Convolution.{symbol, coded_after}
 use Rattle.trellis.proofs.States.{bit_below}
 use Rattle.survival.specs.Distance.{apart, differing, Seven}
 use Rattle.survival.proofs.Cases.{each_bits, at_bits}

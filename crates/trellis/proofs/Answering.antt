@@ -1,17 +1,17 @@
 -- From the best path into the all-0 state to the word of a block: its total is its own, no word beats it, and a decisive word is it.
-use Rattle.std.proofs.Common.{◌≡◌, ℕ, zero, suc, ◌+◌, true, false, ◌⊎◌, List, [], ◌∷◌, ◌++◌, reverse, length, get_or, take, drop, Some, sym, refl, ap, ◌∙◌, subst, inl, inr, ⊎_elim, arith, length-append, length-drop, take_at}
+use Rattle.std.proofs.Common.{◌≡◌, ℕ, suc, ◌+◌, ◌⊎◌, List, [], ◌∷◌, ◌++◌, reverse, length, get_or, take, drop, Some, sym, refl, ap, ◌∙◌, subst, inl, inr, ⊎_elim, arith, length-append, length-drop, take_at}
 use mathlib.Core.List.{reverse_aux}
 use lib.ListN.{length-reverse}
 use Rattle.std.proofs.lemmas.List.{reverse-append, reverse-reverse}
 use Rattle.std.proofs.lemmas.Bool.{cases_eq, both_ways}
 use Rattle.bits.specs.Bits.{Bits}
 use Rattle.bits.proofs.Numbers.{bits-append, bits-drop}
-use Rattle.codes.specs.Convolution.{symbol, coded_after, coded}
+use Rattle.codes.specs.Convolution.{coded_after}
 use Rattle.measure.specs.Meaning.{Meaning, Lawful}
 use Rattle.trellis.specs.Words.{Heard, weighed, word_total, Word, Unbeaten, Decisive}
-use Rattle.trellis.specs.Search.{output, PathTo, best}
+use Rattle.trellis.specs.Search.{PathTo, best}
 use Rattle.trellis.proofs.States.{state_of, output_is, zero_state}
-use Rattle.trellis.proofs.Optimal.{total_of, Sound, Best, best_is}
+use Rattle.trellis.proofs.Optimal.{total_of, Best, best_is}
 
 same_or_not : (xs ys : List ℕ) → (xs ≡ ys) ⊎ (xs ≡ ys → ⊥)
 same_or_not [] [] = inl refl

@@ -1,5 +1,5 @@
 -- Sixteen decisions as one number, made bit by bit and read back.
-use Rattle.std.proofs.Common.{◌≡◌, ℕ, zero, suc, ◌+◌, ◌-◌, ◌*◌, ◌/◌, ◌%◌, ◌^◌, ◌<◌, ◌≤◌, Bool, true, false, cond, sym, refl, ap, ◌∙◌, ⊎_elim, mul_assoc, mul_comm, pow-suc, arith, pow_pos, pow-add}
+use Rattle.std.proofs.Common.{◌≡◌, ℕ, zero, suc, ◌+◌, ◌-◌, ◌*◌, ◌/◌, ◌%◌, ◌^◌, ◌<◌, ◌≤◌, Bool, true, false, cond, sym, ap, ◌∙◌, ⊎_elim, mul_assoc, pow-suc, arith, pow_pos, pow-add}
 use native.Mathlib.Nat.{mul-add-div_right}
 use lib.Pow.{high}
 use Rattle.std.proofs.lemmas.Bool.{cases_lt}

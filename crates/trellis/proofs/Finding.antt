@@ -1,9 +1,6 @@
 -- What the code finds is what the definitions answer.
-use Rattle.std.proofs.Common.{◌≡◌, ℕ, ◌+◌, ◌-◌, ◌*◌, ◌/◌, ◌<◌, ◌≤◌, List, [], ◌∷◌, ◌++◌, reverse, length, get_or, take, drop, replicate, Some, None, Ok, Option, sym, refl, ap, ◌∙◌, subst, append_assoc, arith, length-append, length-take-le, take_all, take-take, take_at, drop_at}
-use mathlib.Core.List.{reverse_aux}
-use lib.ListN.{length-reverse, length-replicate}
-use lib.Seq.{take-append-le}
-use Rattle.std.proofs.lemmas.List.{reverse-reverse}
+use Rattle.std.proofs.Common.{◌≡◌, ℕ, ◌+◌, ◌-◌, ◌*◌, ◌/◌, ◌≤◌, List, [], ◌∷◌, ◌++◌, reverse, length, take, drop, replicate, Some, None, Ok, Option, sym, refl, ap, ◌∙◌, subst, arith, length-take-le, take_at, drop_at}
+use lib.ListN.{length-reverse}
 use Rattle.bits.specs.Bits.{Bits, byte_bits, numbers_of}
 use Rattle.bits.proofs.Numbers.{byte_bits-append, byte_bits_numbers, length-numbers_of}
 use Rattle.fault.specs.declared.Fault.{Fault}
@@ -13,12 +10,11 @@ use Rattle.layout.specs.declared.Block.TheVariants.{Fich, First, Second, Short, 
 use Rattle.layout.specs.Places.{length_of}
 use Rattle.layout.proofs.Own.{own_places}
 use Rattle.measure.specs.Meaning.{Meaning, Lawful}
-use Rattle.trellis.specs.Words.{Heard, heard, free_inputs, word_total, Word, Unbeaten, Decisive}
+use Rattle.trellis.specs.Words.{heard, free_inputs, word_total, Word, Unbeaten}
 use Rattle.trellis.specs.Search.{PathTo, best}
 use Rattle.trellis.specs.Steps.{traced, at_bank, Holds}
 use Rattle.trellis.specs.declared.search.Found.{Found}
 use Rattle.trellis.specs.Answers.{word_inputs, Answers, Searched}
-use Rattle.trellis.proofs.States.{bit_below}
 use Rattle.trellis.proofs.Holding.{some_reached}
 use Rattle.trellis.proofs.Tracing.{length-traced, bits-traced}
 use Rattle.trellis.proofs.Hearing.{length-heard}

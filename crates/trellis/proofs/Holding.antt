@@ -1,11 +1,11 @@
 -- A bank and its decisions go on saying the best paths, one reading further.
-use Rattle.std.proofs.Common.{◌≡◌, ℕ, zero, suc, ◌+◌, ◌*◌, ◌/◌, ◌%◌, ◌^◌, ◌<◌, ◌≤◌, Bool, true, false, cond, ltb, leb, ◌⊎◌, List, [], ◌∷◌, length, get_or, Some, None, Option, sym, refl, ap, ◌∙◌, subst, inl, inr, arith, ne_eqb}
+use Rattle.std.proofs.Common.{◌≡◌, ℕ, zero, suc, ◌*◌, ◌/◌, ◌%◌, ◌^◌, ◌<◌, ◌≤◌, Bool, true, false, cond, ltb, leb, ◌⊎◌, List, [], ◌∷◌, length, get_or, Some, None, Option, sym, refl, ap, ◌∙◌, subst, inl, inr, arith, ne_eqb}
 use native.Mathlib.Nat.{zero-div}
 use Rattle.std.proofs.lemmas.List.{get_or_read}
 use Rattle.std.proofs.lemmas.Bool.{cond-false, le-ltb, leb-true, leb-false}
 use Rattle.measure.specs.Meaning.{Meaning}
 use Rattle.trellis.specs.Words.{Heard}
-use Rattle.trellis.specs.Search.{earlier_state, output, PathTo, longer, chosen, best}
+use Rattle.trellis.specs.Search.{earlier_state, PathTo, longer, chosen, best}
 use Rattle.trellis.specs.Steps.{reached, packed, traced, at_bank, via, one_wins, winner, kept, hears, Holds, Stepped}
 use Rattle.trellis.proofs.Decisions.{unpacked}
 

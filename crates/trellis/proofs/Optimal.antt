@@ -1,9 +1,9 @@
 -- The best path into a state is a path of its own total, and no path into that state is better.
-use Rattle.std.proofs.Common.{◌≡◌, ℕ, suc, ◌+◌, ◌*◌, ◌%◌, ◌<◌, Bool, true, false, cond, eqb, List, [], ◌∷◌, length, Some, None, Option, sym, refl, ap, ◌∙◌, subst, inl, inr, ⊎_elim, arith, eq-eqb, eqb-true}
+use Rattle.std.proofs.Common.{◌≡◌, ℕ, suc, ◌+◌, ◌*◌, ◌%◌, ◌<◌, Bool, true, false, cond, eqb, List, [], ◌∷◌, length, Some, None, Option, sym, refl, ap, ◌∙◌, subst, ⊎_elim, arith, eqb-true}
 use Rattle.bits.specs.Bits.{Bits}
 use Rattle.measure.specs.Meaning.{Meaning, Lawful}
 use Rattle.trellis.specs.Words.{Heard}
-use Rattle.trellis.specs.Search.{earlier_state, output, PathTo, longer, chosen, next_best, best}
+use Rattle.trellis.specs.Search.{earlier_state, output, PathTo, longer, chosen, best}
 use Rattle.trellis.proofs.States.{state_of, state_below, before_next, last_input, next_of_before, earlier_below}
 
 abbrev Each : {T : Type 0} → (PathTo T → Type 0) → Option (PathTo T) → Type 0

@@ -2,7 +2,7 @@
 use Rattle.std.proofs.Common.{◌≡◌, ℕ, suc, ◌+◌, ◌-◌, ◌*◌, ◌/◌, ◌%◌, ◌^◌, ◌<◌, ◌≤◌, List, [], ◌∷◌, ◌++◌, reverse, length, get_or, take, drop, set, sym, refl, ap, ◌∙◌, append_assoc, append-nil, arith, take_all}
 use mathlib.Core.List.{reverse-cons}
 use lib.Seq.{take-set-le}
-use Rattle.std.proofs.lemmas.List.{take_more, drop-set, drop_all, reverse-append, nil_from_length, length-reverse}
+use Rattle.std.proofs.lemmas.List.{take_more, drop-set, drop_all, reverse-append}
 use Rattle.bits.specs.Bits.{Bits}
 use Rattle.trellis.specs.Search.{earlier_state}
 use Rattle.trellis.specs.Steps.{traced}

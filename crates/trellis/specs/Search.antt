@@ -1,6 +1,6 @@
 -- The best word into each state of the trellis. A state is the last four inputs as a number, the newest lowest.
 -- Inputs and readings stand newest first here.
-use Rattle.std.specs.Prelude.{ℕ, ◌+◌, ◌*◌, ◌/◌, ◌%◌, Bool, cond, List, [], ◌∷◌, reverse, Some, None, Option, ◌==◌}
+use Rattle.std.specs.Prelude.{ℕ, ◌+◌, ◌*◌, ◌/◌, ◌%◌, cond, List, [], ◌∷◌, reverse, Some, None, Option, ◌==◌}
 use Rattle.bits.specs.declared.Dibit.{Dibit}
 use Rattle.codes.specs.Convolution.{symbol}
 use Rattle.layout.specs.declared.Block.{Block}

@@ -1,10 +1,10 @@
 -- What the search holds on its way: a bank of sixteen totals, and a number of sixteen decisions for each step.
-use Rattle.std.specs.Prelude.{◌≡◌, ℕ, zero, suc, ◌+◌, ◌*◌, ◌/◌, ◌%◌, ◌^◌, ◌<◌, Bool, true, false, cond, List, [], ◌∷◌, length, Some, nat_lt, slice_index_or}
+use Rattle.std.specs.Prelude.{◌≡◌, ℕ, zero, suc, ◌+◌, ◌/◌, ◌%◌, ◌^◌, ◌<◌, Bool, cond, List, [], ◌∷◌, length, Some, nat_lt, slice_index_or}
 use Rattle.bits.specs.declared.Dibit.{Dibit}
 use Rattle.bits.specs.declared.Dibit.TheVariants.{D00, D01, D10, D11}
 use Rattle.measure.specs.Meaning.{Meaning}
 use Rattle.trellis.specs.Words.{Heard}
-use Rattle.trellis.specs.Search.{earlier_state, output, PathTo, best}
+use Rattle.trellis.specs.Search.{earlier_state, output, best}
 
 -- how many states are reached after k steps
 abbrev pub reached : ℕ → ℕ

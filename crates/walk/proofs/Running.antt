@@ -1,10 +1,10 @@
 -- The frames of a whole recording.
-use Rattle.std.proofs.Common.{◌≡◌, ℕ, zero, suc, ◌+◌, ◌-◌, ◌<◌, ◌≤◌, Bool, true, false, cond, ◌⊎◌, List, [], ◌∷◌, ◌++◌, length, Some, None, Option, sym, refl, ap, ◌∙◌, subst, inl, inr, ⊎_elim, arith}
+use Rattle.std.proofs.Common.{◌≡◌, ℕ, zero, suc, ◌+◌, ◌-◌, ◌<◌, ◌≤◌, true, cond, ◌⊎◌, List, [], ◌∷◌, ◌++◌, length, Some, None, Option, sym, refl, ap, ◌∙◌, subst, inl, inr, ⊎_elim, arith}
 use Rattle.std.proofs.lemmas.Bool.{cases_Bool, cases_lt, cond-true, cond-false}
 use Rattle.measure.specs.Meaning.{Meaning}
 use Rattle.walk.specs.Sync.{Starts}
 use Rattle.walk.specs.Walks.{Position, Seen, start, frame_taken, position_after}
-use Rattle.walk.specs.Frames.{then_more, Inside, NoFourMissed, frames_from, enough, frames_after, all_frames, Sound, Hands, Ends, Takes, InOrder, Runs}
+use Rattle.walk.specs.Frames.{then_more, Inside, NoFourMissed, frames_from, enough, frames_after, all_frames, Hands, Ends, Takes, InOrder, Runs}
 use Rattle.walk.proofs.Stepping.{takes}
 
 -- no frame is missed after three in succession, n of which came before

@@ -1,12 +1,12 @@
 -- A sync word starts where the test says so.
-use Rattle.std.proofs.Common.{◌≡◌, ℕ, zero, suc, ◌+◌, ◌-◌, ◌*◌, ◌<◌, ◌≤◌, min, Bool, true, false, cond, ◌&&◌, eqb, List, [], ◌∷◌, map, length, get_or, take, drop, Some, None, sym, refl, ap, ◌∙◌, subst, ⊎_elim, add-one, arith, length-drop, length-take, length-take-le, get_or-drop, get_or-take}
+use Rattle.std.proofs.Common.{◌≡◌, ℕ, zero, suc, ◌+◌, ◌-◌, ◌<◌, ◌≤◌, min, Bool, true, false, cond, ◌&&◌, eqb, List, [], ◌∷◌, length, get_or, take, drop, Some, None, sym, refl, ap, ◌∙◌, ⊎_elim, add-one, arith, length-drop, length-take, length-take-le, get_or-drop, get_or-take}
 use lib.ListN.{length-map}
 use Rattle.std.proofs.lemmas.List.{get_or-map, ext_get_or}
 use Rattle.std.proofs.lemmas.Bool.{eq-eqb, eqb-true, and_parts, and_from, cases_Bool, both_ways, cond-true, cond-false}
 use Rattle.std.proofs.lemmas.Bool.Decides.{Decides-below_and, Decides-eqb}
 use Rattle.bits.specs.declared.Dibit.{Dibit}
 use Rattle.bits.specs.declared.Dibit.TheVariants.{D00, D01, D10, D11}
-use Rattle.bits.specs.Bits.{bits_of, bit_at}
+use Rattle.bits.specs.Bits.{bits_of}
 use Rattle.bits.specs.Dibits.{value_of, dibit_of, dibits_of}
 use Rattle.bits.proofs.Packing.{length-dibits_of}
 use Rattle.layout.specs.Places.{sync_word}

@@ -1,10 +1,10 @@
 -- One step of a walk keeps its law.
-use Rattle.std.proofs.Common.{◌≡◌, ℕ, zero, suc, ◌+◌, ◌-◌, ◌<◌, ◌≤◌, Bool, true, false, cond, ltb, leb, List, length, Some, None, Option, sym, refl, ap, ◌∙◌, subst, ⊎_elim, arith}
+use Rattle.std.proofs.Common.{◌≡◌, ℕ, zero, suc, ◌+◌, ◌-◌, ◌<◌, ◌≤◌, Bool, true, false, ltb, leb, List, length, Some, None, Option, sym, refl, ap, ◌∙◌, subst, ⊎_elim, arith}
 use Rattle.std.proofs.lemmas.Bool.{cases_Bool, cases_eq, both_ways, cond-true, cond-false, cond_both, leb-true, leb-false, ltb-true, ltb-false}
 use Rattle.measure.specs.Meaning.{Meaning}
-use Rattle.walk.specs.Sync.{Starts, synced, frame_places, first_of, first_sync}
+use Rattle.walk.specs.Sync.{synced, frame_places, first_of, first_sync}
 use Rattle.walk.specs.Walks.{Position, Seen, found, past, shown, taken, frame_taken, position_after}
-use Rattle.walk.specs.Frames.{Sound, Hands, Ends, Takes}
+use Rattle.walk.specs.Frames.{Takes}
 use Rattle.walk.proofs.Starting.{synced_true, synced_false}
 
 pub never : {X : Type 0} → true ≡ false → X

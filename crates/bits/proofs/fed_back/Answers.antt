@@ -1,5 +1,4 @@
-use Rattle.std.proofs.Common.{◌*◌, ◌%◌, cond, not, sym, ap, ◌∙◌, arith}
-use mathlib.Core.Bool.{beq}
+use Rattle.std.proofs.Common.{◌*◌, ◌%◌, cond, sym, ap, ◌∙◌, arith}
 use Rattle.bits.specs.Bits.{bits_of, plus}
 use Rattle.bits.proofs.Divides.{shifted_number}
 use Rattle.bits.proofs.Sums.{bits_of_xor}

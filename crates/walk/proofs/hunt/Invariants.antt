@@ -1,5 +1,5 @@
-use Rattle.std.proofs.Common.{◌≡◌, ◌-◌, length}
-use Rattle.walk.specs.Sync.{frame_places, first_of, first_sync}
+use Rattle.std.proofs.Common.{◌≡◌}
+use Rattle.walk.specs.Sync.{first_sync}
 use Rattle.walk.proofs.hunt.Given as goal
 
 abbrev pub invariant-loop-place : goal.invariant-loop-place

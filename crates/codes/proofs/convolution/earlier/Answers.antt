@@ -1,4 +1,4 @@
-use Rattle.std.proofs.Common.{◌-◌, leb, sym, ap, ◌∙◌, arith}
+use Rattle.std.proofs.Common.{◌-◌, leb, sym, ◌∙◌, arith}
 use Rattle.std.proofs.lemmas.Bool.{cond-true, le-leb}
 use Rattle.bits.proofs.Numbers.{bit_at_is}
 use Rattle.codes.proofs.convolution.earlier.Goals as goal

@@ -1,4 +1,4 @@
-use Rattle.std.proofs.Common.{◌≡◌, ◌+◌, ◌-◌, ◌/◌, ◌%◌, ◌^◌, cond, eqb, get_or, drop, sym, refl, ap, ◌∙◌, mod-lt, arith}
+use Rattle.std.proofs.Common.{◌≡◌, ◌-◌, ◌/◌, ◌%◌, ◌^◌, cond, eqb, get_or, sym, ap, ◌∙◌, mod-lt, arith}
 use Rattle.std.proofs.lemmas.List.{at_drop_all}
 use Rattle.bits.specs.Bits.{bits_of}
 use Rattle.bits.specs.Division.{fed, shifted}

@@ -1,4 +1,4 @@
-use Rattle.std.proofs.Common.{get_or, set, ap, ◌∙◌, subst, arith}
+use Rattle.std.proofs.Common.{get_or, set, ap, ◌∙◌, arith}
 use Rattle.std.proofs.lemmas.List.Edits.{fill_by_more}
 use Rattle.bits.specs.Bits.{byte_bits}
 use Rattle.bits.specs.Dibits.{byte_by}

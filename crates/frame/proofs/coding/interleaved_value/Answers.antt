@@ -1,4 +1,4 @@
-use Rattle.std.proofs.Common.{◌≡◌, get_or, sym, ap, ◌∙◌, arith}
+use Rattle.std.proofs.Common.{get_or, sym, ap, ◌∙◌, arith}
 use Rattle.bits.specs.declared.Dibit.TheVariants.{D00}
 use Rattle.bits.specs.Bits.{byte_bits}
 use Rattle.bits.specs.Dibits.{value_of}

@@ -1,4 +1,4 @@
-use Rattle.std.proofs.Common.{◌≡◌, ◌+◌, ◌*◌, ◌/◌, ◌%◌, ◌++◌, length, ap, ◌∙◌, arith, rules}
+use Rattle.std.proofs.Common.{◌≡◌, ◌+◌, ◌*◌, ◌/◌, ◌%◌, ap, ◌∙◌, arith, rules}
 use Rattle.bits.specs.Bits.{bits_of, byte_bits}
 use Rattle.golay.specs.Golay.{golay}
 use Rattle.frame.proofs.Words.{two_listed, words_of_three}

@@ -1,4 +1,4 @@
-use Rattle.std.proofs.Common.{◌≡◌, length, sym, refl, ap, ◌∙◌, rules}
+use Rattle.std.proofs.Common.{length, sym, ap, ◌∙◌, rules}
 use Rattle.fault.proofs.Refusals.{old_kept}
 use Rattle.frame.specs.Header.{header_frame, length_fault, frame_after}
 use Rattle.frame.proofs.Known.{known_values}

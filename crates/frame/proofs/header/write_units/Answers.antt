@@ -1,6 +1,6 @@
-use Rattle.std.proofs.Common.{◌≡◌, length, sym, ap, ◌∙◌, arith, ext_get_or, rules}
+use Rattle.std.proofs.Common.{◌≡◌, length, ap, ◌∙◌, arith, ext_get_or, rules}
 use Rattle.frame.specs.Coding.{by_turns}
-use Rattle.frame.specs.Header.{unit_block, first_data, second_data}
+use Rattle.frame.specs.Header.{unit_block, first_data}
 use Rattle.frame.proofs.Turns.{length-by_turns}
 use Rattle.frame.proofs.header.write_units.Goals as goal
 

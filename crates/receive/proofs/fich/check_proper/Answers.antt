@@ -1,4 +1,4 @@
-use Rattle.std.proofs.Common.{sym, ap, ◌∙◌}
+use Rattle.std.proofs.Common.{sym, ap}
 use Rattle.fault.specs.Faults.{refused_or}
 use Rattle.receive.proofs.Propers.{proper-here, improper_here, all_proper}
 use Rattle.receive.proofs.fich.check_proper.Goals as goal

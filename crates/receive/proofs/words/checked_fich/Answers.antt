@@ -1,6 +1,5 @@
-use Rattle.std.proofs.Common.{◌≡◌, Err, sym, refl, ap, ◌∙◌, rules}
+use Rattle.std.proofs.Common.{sym, ap, ◌∙◌, rules}
 use Rattle.std.proofs.lemmas.Bool.{ne_eqb, eq-eqb, cond-true, cond-false}
-use Rattle.fault.specs.declared.Fault.TheVariants.{WrongChecksum}
 use Rattle.fields.specs.Received.{fich_read}
 use Rattle.receive.proofs.Sixes.{front_four, checks}
 use Rattle.receive.proofs.words.checked_fich.Goals as goal

@@ -1,4 +1,4 @@
-use Rattle.std.proofs.Common.{◌≡◌, Ok, Err, sym, refl, ◌∙◌, rules}
+use Rattle.std.proofs.Common.{◌≡◌, Err, sym, refl, ◌∙◌, rules}
 use Rattle.bits.specs.Bits.{numbers_of}
 use Rattle.bits.proofs.Numbers.{length-numbers_of}
 use Rattle.layout.specs.declared.Block.TheVariants.{Fich}

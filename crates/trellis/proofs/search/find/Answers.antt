@@ -1,4 +1,4 @@
-use Rattle.std.proofs.Common.{◌∙◌, arith}
+use Rattle.std.proofs.Common.{arith}
 use Rattle.std.proofs.lemmas.List.{get_or_read}
 use Rattle.trellis.proofs.States.{bit_below}
 use Rattle.trellis.proofs.Finding.{sizes, path_bits, path_long, found}

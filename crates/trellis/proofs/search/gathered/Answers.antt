@@ -1,4 +1,4 @@
-use Rattle.std.proofs.Common.{◌≡◌, ◌+◌, ◌*◌, ◌^◌, ◌<◌, [], ◌∷◌, ◌++◌, length, get_or, take, drop, sym, refl, ap, ◌∙◌, pow-suc, add-one, arith, length-drop, get_or-drop}
+use Rattle.std.proofs.Common.{◌≡◌, ◌+◌, ◌*◌, ◌^◌, [], ◌∷◌, get_or, take, drop, refl, ap, ◌∙◌, pow-suc, add-one, arith, length-drop, get_or-drop}
 use Rattle.std.proofs.lemmas.List.{take_more}
 use Rattle.bits.specs.Bits.{number_of, number_from}
 use Rattle.bits.proofs.Numbers.{number_from-append}

@@ -1,4 +1,4 @@
-use Rattle.std.proofs.Common.{◌≡◌, ◌+◌, ◌^◌, ◌<◌, take, drop}
+use Rattle.std.proofs.Common.{◌≡◌, ◌^◌, ◌<◌, take, drop}
 use Rattle.bits.specs.Bits.{number_of}
 use Rattle.trellis.proofs.search.gathered.Given as goal
 

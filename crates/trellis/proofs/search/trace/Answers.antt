@@ -1,4 +1,4 @@
-use Rattle.std.proofs.Common.{◌+◌, ◌*◌, ◌/◌, ◌%◌, ◌^◌, ◌<◌, length, arith, length-set}
+use Rattle.std.proofs.Common.{arith, length-set}
 use Rattle.trellis.proofs.Tracing.{trace_none, trace_more, trace_all}
 use Rattle.trellis.proofs.search.trace.Goals as goal
 

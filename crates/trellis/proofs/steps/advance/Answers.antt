@@ -1,4 +1,4 @@
-use Rattle.std.proofs.Common.{◌≡◌, ℕ, ◌+◌, ◌*◌, ◌%◌, ◌^◌, ◌<◌, length, refl, arith, rules}
+use Rattle.std.proofs.Common.{◌*◌, refl, arith, rules}
 use Rattle.trellis.specs.Steps.{packed, one_wins, kept, hears}
 use Rattle.trellis.proofs.Butterflies.{decisions_more, two_more}
 use Rattle.trellis.proofs.steps.advance.Goals as goal

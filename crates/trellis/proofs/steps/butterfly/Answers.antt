@@ -1,6 +1,6 @@
-use Rattle.std.proofs.Common.{◌≡◌, ℕ, ◌+◌, ◌*◌, cond, List, get_or, refl, ap, ◌∙◌, arith}
+use Rattle.std.proofs.Common.{◌+◌, ◌*◌, cond, get_or, refl, ap, ◌∙◌, arith}
 use Rattle.std.proofs.lemmas.List.{get_or_read}
-use Rattle.trellis.specs.Steps.{hears, via, winner, turned}
+use Rattle.trellis.specs.Steps.{hears, winner}
 use Rattle.trellis.proofs.Butterflies.{four_ways, winner_is, ones_are}
 use Rattle.trellis.proofs.steps.butterfly.Goals as goal
 

@@ -1,4 +1,3 @@
-use Rattle.std.proofs.Common.{◌≡◌, rules}
 use Rattle.trellis.proofs.Holding.{stepped}
 use Rattle.trellis.proofs.steps.step_at.Goals as goal
 

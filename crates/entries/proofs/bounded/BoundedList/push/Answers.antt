@@ -1,4 +1,4 @@
-use Rattle.std.proofs.Common.{◌<◌, ◌≤◌, length, refl, ◌∙◌}
+use Rattle.std.proofs.Common.{refl, ◌∙◌}
 use borrow.Author.Tests.{true-leb, false-leb}
 use Rattle.entries.proofs.Listing.{push_full, push_open, pushed, room-kept, unless_none, unless_some, answered, refused_with}
 use Rattle.entries.proofs.bounded.BoundedList.push.Goals as goal
