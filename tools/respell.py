@@ -24,7 +24,7 @@ QUOTED = re.compile(r'"(?:[^"\\\n]|\\.)*"')
 LIBRARY = "length take drop replicate reverse append map get_or".split()
 
 # Spellings that the rule would let fall together with another name, and older names of the library inside ours.
-OWN = {"Laid_out": "LaidOut", "bit-xor": "bit_xor-mod", "block-total": "block_total_fits", "frame-total": "frame_total_fits"}
+OWN = {"Laid_out": "LaidOut", "Muted-marks": "IsMutedMarks", "bit-xor": "bit_xor-mod", "block-total": "block_total_fits", "frame-total": "frame_total_fits"}
 
 
 def files():

@@ -5,7 +5,7 @@ use Rattle.measure.specs.Meaning.{Meaning}
 use Rattle.measure.specs.Marks.{marks_extended, marks_plain, marks_proper}
 
 -- a measure that is marks with some places muted
-pub record MutedMarks {S : Type 0} (μ : Meaning S ℕ ℕ) (muted : S → ℕ → Bool) : Type 0 where
+pub record IsMutedMarks {S : Type 0} (μ : Meaning S ℕ ℕ) (muted : S → ℕ → Bool) : Type 0 where
   pub start : (m : S) → μ.start m ≡ 0
   pub extend : (m : S) (total place reading : ℕ) (d : Dibit)
       → μ.extend m total place reading d ≡ cond (muted m place) total (marks_extended total reading d)

@@ -1,7 +1,7 @@
 //! What every measure does, and the laws that it owes.
 ghost use Rattle.std.specs.Prelude.{◌≡◌, ℕ, Bool};
 ghost use Rattle.measure.specs.Meaning.{Meaning, Lawful};
-ghost use Rattle.measure.specs.Muting.{MutedMarks};
+ghost use Rattle.measure.specs.Muting.{IsMutedMarks};
 
 use bits::Dibit;
 
@@ -50,5 +50,5 @@ pub trait MutedMarks: Measure<Reading = u8, Total = u16> {
     fn muted(&self, place: usize) -> bool
         ensures { result ≡ muted self.now place };
 
-    ghost tied: { MutedMarks Self.Measure.means muted };
+    ghost tied: { IsMutedMarks Self.Measure.means muted };
 }

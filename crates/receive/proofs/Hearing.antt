@@ -7,7 +7,7 @@ use Rattle.frame.specs.Header.{fich_inputs}
 use Rattle.layout.specs.declared.Block.{Block}
 use Rattle.layout.specs.declared.Block.TheVariants.{Fich}
 use Rattle.measure.specs.Meaning.{Meaning}
-use Rattle.measure.specs.Muting.{MutedMarks}
+use Rattle.measure.specs.Muting.{IsMutedMarks}
 use Rattle.survival.proofs.Flips.{marks_decisive}
 use Rattle.survival.proofs.Recovering.{all_heard}
 use Rattle.trellis.specs.declared.search.Found.{Found}
@@ -64,7 +64,7 @@ pub first_none : (first second : Option Fault) → or_else first second ≡ None
 first_none None second e = refl
 first_none (Some fault) second e = let z : ◌≡◌ {A = ℕ} 0 1 = cc in absurd (omega arith)
 
-pub fich_survives : {S : Type 0} (μ : Meaning S ℕ ℕ) (muted : S → ℕ → Bool) (tied : MutedMarks μ muted) (m : S) (readings : List ℕ) (totals numbers : ℕ) (r : Result FichFields Fault)
+pub fich_survives : {S : Type 0} (μ : Meaning S ℕ ℕ) (muted : S → ℕ → Bool) (tied : IsMutedMarks μ muted) (m : S) (readings : List ℕ) (totals numbers : ℕ) (r : Result FichFields Fault)
     → HeardFich μ m readings (frame_fault μ m readings totals numbers) r → FichSurvives (muted m) readings (frame_fault μ m readings totals numbers) r
 fich_survives μ muted tied m readings totals numbers r law f lawful none few =
     law.decisive f lawful none

@@ -7,7 +7,7 @@ use Rattle.codes.specs.Convolution.{coded}
 use Rattle.codes.proofs.Coder.{length-coded_after}
 use Rattle.measure.specs.Meaning.{Meaning}
 use Rattle.measure.specs.Marks.{first_lost, second_lost, first_read, second_read, miss, misses, marks_extended}
-use Rattle.measure.specs.Muting.{MutedMarks}
+use Rattle.measure.specs.Muting.{IsMutedMarks}
 use Rattle.trellis.specs.Words.{Heard, weighed, word_total, Word, Decisive}
 use Rattle.survival.specs.Distance.{unlike, apart, differing}
 use Rattle.survival.specs.Damage.{flips_at, unreadable_at, flips, unreadable}
@@ -83,7 +83,7 @@ module _ (muted : ℕ → Bool) where
   unharmed (y ∷ ys) (d ∷ ds) quiet e =
       omega (arith, here_unharmed y d (quiet y.place) (ap (λ l. get_or l 0 0) e), unharmed ys ds quiet (ap (drop 1) e))
 
-module _ {S : Type 0} (μ : Meaning S ℕ ℕ) (muted : S → ℕ → Bool) (tied : MutedMarks μ muted) (m : S) where
+module _ {S : Type 0} (μ : Meaning S ℕ ℕ) (muted : S → ℕ → Bool) (tied : IsMutedMarks μ muted) (m : S) where
   -- a total is the number of flips, at most 65535
   total-flips : (ys : List (Heard ℕ)) (ds : List Dibit) (total : ℕ) → total ≤ 65535
       → weighed μ m total ys ds ≡ min 65535 (total + flips (muted m) ys ds)

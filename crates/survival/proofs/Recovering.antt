@@ -9,7 +9,7 @@ use Rattle.layout.specs.declared.Block.{Block}
 use Rattle.layout.specs.Places.{length_of}
 use Rattle.layout.proofs.Own.{own_places}
 use Rattle.measure.specs.Meaning.{Meaning}
-use Rattle.measure.specs.Muting.{MutedMarks}
+use Rattle.measure.specs.Muting.{IsMutedMarks}
 use Rattle.measure.specs.Levels.{levels_means}
 use Rattle.measure.specs.declared.levels.Levels.{Levels}
 use Rattle.trellis.specs.declared.search.Found.{Found}
@@ -41,7 +41,7 @@ pub all_heard : {R : Type 0} (block : Block) (readings : List R) (totals numbers
 all_heard block readings totals numbers none =
     length-heard block readings (length_of block) (own_places block) (whole_frame (length readings) totals numbers none) (omega arith) ∙ (sizes block).2
 
-module _ {S : Type 0} (μ : Meaning S ℕ ℕ) (muted : S → ℕ → Bool) (tied : MutedMarks μ muted) (m : S)
+module _ {S : Type 0} (μ : Meaning S ℕ ℕ) (muted : S → ℕ → Bool) (tied : IsMutedMarks μ muted) (m : S)
     (block : Block) (readings : List ℕ) (totals numbers : ℕ) (r : Result (Found ℕ) Fault)
     (searched : Searched μ m block readings (size_fault (length readings) totals numbers) r) where
   pub survives : Survives (muted m) block readings (size_fault (length readings) totals numbers) r

@@ -137,19 +137,11 @@ fn levels(rt: HostRuntime) -> Result<(), Fail> {
 }
 
 #[test]
-fn sizes_are_refused(rt: HostRuntime) -> Result<(), Fail> {
+fn sizes_are_refused(rt: HostRuntime) {
     let mut frame = [0; 480];
     lay_fich(&mut frame, &FICH_MARKS);
     let mut totals = [0; 31];
     let mut numbers = [0; 180];
-    match read_marks(&Marks, Block::Fich, &frame, &mut totals, &mut numbers) {
-        Ok(_) => {
-            assert!(rt; false);
-            Ok(())
-        },
-        Err(fault) => {
-            assert_eq!(rt; fault, Fault::WrongSize(Memory::Totals));
-            Ok(())
-        },
-    }
+    let found = read_marks(&Marks, Block::Fich, &frame, &mut totals, &mut numbers);
+    assert_eq!(rt; found.err(), Some(Fault::WrongSize(Memory::Totals)));
 }
