@@ -126,3 +126,12 @@ shifted_number g n top b h e =
     ∙ ap (λ x. cond (eqb (x ⊕ cond b 1 0) 0) zs (plus zs g)) bit
     ∙ feeds top b zs (plus zs g)
     ∙ ap (λ l. cond (not (beq top b)) (plus l g) l) (sym twice)
+
+-- the bits of a number, fed one by one
+pub fed_next : (g register : List ℕ) (j n : ℕ) → fed g register (bits_of (suc j) n) ≡ fed g (shifted g register (n / 2 ^ j % 2)) (bits_of j n)
+unfolding fed bits_of
+fed_next g register j n = refl
+
+pub fed_none : (g register : List ℕ) (n : ℕ) → fed g register (bits_of 0 n) ≡ register
+unfolding fed bits_of
+fed_none g register n = refl

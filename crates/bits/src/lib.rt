@@ -4,15 +4,15 @@
 ghost use Rattle.std.specs.Prelude.{◌≡◌, ◌<◌, if◌then◌else◌, nat_le, slice_index};
 ghost use Rattle.bits.specs.Bits.{bits_of, bit_at};
 ghost use Rattle.bits.specs.Dibits.{dibit, value_of};
-ghost use Rattle.bits.specs.Division.{shifted};
+ghost use Rattle.bits.specs.Division.{shifted, fed};
 
 /// Two bits, the first the higher.
 #[derive(Clone, Copy, PartialEq, Eq)]
 pub enum Dibit {
-    D00,
-    D01,
-    D10,
-    D11,
+    D00 = 0,
+    D01 = 1,
+    D10 = 2,
+    D11 = 3,
 }
 
 impl Dibit {
@@ -32,12 +32,7 @@ impl Dibit {
     pub fn value(self) -> u8
         ensures { result ≡ value_of self }
     {
-        match self {
-            Dibit::D00 => 0,
-            Dibit::D01 => 1,
-            Dibit::D10 => 2,
-            Dibit::D11 => 3,
-        }
+        self as u8
     }
 }
 
@@ -45,10 +40,7 @@ impl Dibit {
 fn byte_at(bytes: &[u8], k: usize) -> u8
     ensures { result ≡ slice_index bytes.now k }
 {
-    if k < bytes.len() {
-        return bytes[k];
-    }
-    0
+    bytes.get(k).copied().unwrap_or(0)
 }
 
 /// Bit `k` of a byte, the highest first.
@@ -66,11 +58,11 @@ pub fn bit(bytes: &[u8], i: usize) -> bool
     bit_of(byte_at(bytes, i / 8), i % 8)
 }
 
-/// The register one place up, with the taps added where its top bit and the new bit differ.
-fn fed_back(register: u16, top: bool, bit: bool, taps: u16) -> u16
-    requires { top ≡ nat_le 0x8000 register }
+/// A register of sixteen bits that divides by x^16 and the powers in `taps`, one bit on.
+pub fn shift_in(register: u16, bit: bool, taps: u16) -> u16
     ensures { bits_of 16 result ≡ shifted (bits_of 16 taps) (bits_of 16 register) (if bit then 1 else 0) }
 {
+    let top = register >= 0x8000;
     if top != bit {
         (register << 1) ^ taps
     } else {
@@ -78,9 +70,13 @@ fn fed_back(register: u16, top: bool, bit: bool, taps: u16) -> u16
     }
 }
 
-/// A register of sixteen bits that divides by x^16 and the powers in `taps`, one bit on.
-pub fn shift_in(register: u16, bit: bool, taps: u16) -> u16
-    ensures { bits_of 16 result ≡ shifted (bits_of 16 taps) (bits_of 16 register) (if bit then 1 else 0) }
+/// The same of the `width` lowest bits of a number, the highest first.
+pub fn shift_in_number(register: u16, number: u16, width: u32, taps: u16) -> u16
+    ensures { bits_of 16 result ≡ fed (bits_of 16 taps) (bits_of 16 register) (bits_of width number) }
 {
-    fed_back(register, register >= 0x8000, bit, taps)
+    let mut rest = register;
+    for place in (0..width).rev() {
+        rest = shift_in(rest, number.unbounded_shr(place) % 2 == 1, taps);
+    }
+    rest
 }

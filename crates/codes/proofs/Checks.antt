@@ -14,13 +14,6 @@ unfolding fed
 fed-append g register [] ys = refl
 fed-append g register (x ∷ xs) ys = fed-append g (shifted g register x) xs ys
 
--- one bit more of a list
-pub fed_more : (g xs all : List ℕ) (s s' : List ℕ) (i : ℕ) → i < length xs → s' ≡ shifted g s (get_or xs i 0)
-    → fed g s (drop i xs) ≡ all → fed g s' (drop (i + 1) xs) ≡ all
-unfolding fed
-fed_more g xs all s s' i h e inv =
-    ap (λ t. fed g t (drop (i + 1) xs)) e ∙ sym (at_drop_more (fed g s) xs i 0 h) ∙ inv
-
 pub generator-bits : bits_of 16 4129 ≡ crc_generator
 unfolding bits_of
 generator-bits = refl

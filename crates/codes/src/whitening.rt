@@ -26,22 +26,14 @@ fn eight_on(register: u16) -> u16
     further_on
 }
 
-fn add_from(start: u16, bytes: &mut [u8])
-    requires { start ≡ 0x127 }
-    ensures value { bytes.new ≡ whitened bytes.old }
-    ensures rule { Recurs (whitening (8 * length bytes.old)) }
-{
-    let mut register = start;
-    for byte in bytes.iter_mut() {
-        *byte ^= (register / 2) as u8;
-        register = eight_on(register);
-    }
-}
-
 /// Adds the whitening to bytes, from its start on. A second time takes it off again.
 pub fn whiten(bytes: &mut [u8])
     ensures value { bytes.new ≡ whitened bytes.old }
     ensures rule { Recurs (whitening (8 * length bytes.old)) }
 {
-    add_from(START, bytes);
+    let mut register = START;
+    for byte in bytes.iter_mut() {
+        *byte ^= (register / 2) as u8;
+        register = eight_on(register);
+    }
 }

@@ -1,5 +1,5 @@
 -- The number and the detail of each refusal, and what a call that may refuse answers and leaves.
-use Rattle.std.specs.Prelude.{ℕ, Some, None, Ok, Err, Option, Result}
+use Rattle.std.specs.Prelude.{ℕ, Some, None, Ok, Err, Option, Result, List, ◌++◌, codes, decimal}
 use Rattle.fault.specs.declared.Memory.{Memory}
 use Rattle.fault.specs.declared.Memory.TheVariants.{Readings, Record, Totals, Numbers}
 use Rattle.fault.specs.declared.Field.{Field}
@@ -63,3 +63,7 @@ refused_or (Some fault) value = Err fault
 abbrev pub unless : {A : Type 0} → Option Fault → A → A → A
 unless None new old = new
 unless (Some fault) new old = old
+
+-- how a refusal is reported
+abbrev pub fault_text : Fault → List ℕ
+fault_text fault = codes "number " ++ (decimal (number_of fault) ++ (codes ", detail " ++ decimal (detail_of fault)))

@@ -1,40 +1,43 @@
 //! Every refusal by its cause, with the number and the detail under which it is reported.
 #![tactic(auto)]
 
-ghost use Rattle.std.specs.Prelude.{◌≡◌};
-ghost use Rattle.fault.specs.Faults.{number_of, detail_of, memory_number, field_number, buffer_number};
+ghost use Rattle.std.specs.Prelude.{◌≡◌, Some};
+ghost use Rattle.fault.specs.Faults.{number_of, detail_of, fault_text};
+
+use std::error::Error;
+use std::fmt;
 
 /// Memory of a reading call, in the order in which sizes are checked.
 #[derive(Clone, Copy, PartialEq, Eq, Debug)]
 pub enum Memory {
-    Readings,
-    Record,
-    Totals,
-    Numbers,
+    Readings = 1,
+    Record = 2,
+    Totals = 3,
+    Numbers = 4,
 }
 
 /// A rule that the fields of a received FICH keep, in the order in which they are checked.
 #[derive(Clone, Copy, PartialEq, Eq, Debug)]
 pub enum Field {
     /// FI is one of the three kinds of frame.
-    FrameKind,
+    FrameKind = 1,
     /// CS says that all callsigns are carried.
-    Callsigns,
+    Callsigns = 2,
     /// CM is a call mode.
-    CallMode,
+    CallMode = 3,
     /// BN is at most BT.
-    BlockNumber,
+    BlockNumber = 4,
     /// FN is at most FT.
-    FrameNumber,
+    FrameNumber = 5,
     /// MR is a routing.
-    Routing,
+    Routing = 6,
 }
 
 /// A buffer that a caller lends, in the order in which lengths are checked.
 #[derive(Clone, Copy, PartialEq, Eq, Debug)]
 pub enum Buffer {
-    Frame,
-    Message,
+    Frame = 1,
+    Message = 2,
 }
 
 /// Why a call refused.
@@ -62,45 +65,6 @@ pub enum Fault {
     ListFull,
 }
 
-impl Memory {
-    fn number(self) -> u16
-        ensures { result ≡ memory_number self }
-    {
-        match self {
-            Memory::Readings => 1,
-            Memory::Record => 2,
-            Memory::Totals => 3,
-            Memory::Numbers => 4,
-        }
-    }
-}
-
-impl Field {
-    fn number(self) -> u16
-        ensures { result ≡ field_number self }
-    {
-        match self {
-            Field::FrameKind => 1,
-            Field::Callsigns => 2,
-            Field::CallMode => 3,
-            Field::BlockNumber => 4,
-            Field::FrameNumber => 5,
-            Field::Routing => 6,
-        }
-    }
-}
-
-impl Buffer {
-    fn number(self) -> u16
-        ensures { result ≡ buffer_number self }
-    {
-        match self {
-            Buffer::Frame => 1,
-            Buffer::Message => 2,
-        }
-    }
-}
-
 impl Fault {
     /// The number under which the refusal is listed.
     pub fn number(self) -> u8
@@ -125,11 +89,11 @@ impl Fault {
         ensures { result ≡ detail_of self }
     {
         match self {
-            Fault::WrongSize(memory) => memory.number(),
+            Fault::WrongSize(memory) => memory as u16,
             Fault::Improper(place) => place,
             Fault::NoCodeword(word) => u16::from(word),
-            Fault::FieldNotAllowed(field) => field.number(),
-            Fault::WrongLength(buffer) => buffer.number(),
+            Fault::FieldNotAllowed(field) => field as u16,
+            Fault::WrongLength(buffer) => buffer as u16,
             Fault::WrongChecksum
             | Fault::SettingNotAllowed
             | Fault::StretchNotAllowed
@@ -138,3 +102,15 @@ impl Fault {
         }
     }
 }
+
+impl fmt::Display for Fault {
+    ghost output = { λ fault. Some (fault_text fault) };
+
+    fn fmt<W: fmt::Write>(&self, f: &mut fmt::Formatter<W>) -> fmt::Result {
+        let number = self.number();
+        let detail = self.detail();
+        write!(f, "number {number}, detail {detail}")
+    }
+}
+
+impl Error for Fault {}

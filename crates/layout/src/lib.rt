@@ -1,8 +1,8 @@
 //! Where a frame keeps its parts.
 #![tactic(auto)]
 
-ghost use Rattle.std.specs.Prelude.{◌≡◌};
-ghost use Rattle.layout.specs.Places.{interleave_of, length_of, stands, OwnPlaces};
+ghost use Rattle.std.specs.Prelude.{◌≡◌, ◌^◌, ◌<◌, ◌≤◌};
+ghost use Rattle.layout.specs.Places.{interleave_of, length_of, spread, stands, OwnPlaces};
 
 use codes::interleave::Interleave;
 
@@ -26,6 +26,14 @@ pub enum Block {
     Short,
     /// The undivided unit of the first Voice FR frame.
     Solid,
+}
+
+/// Place `j` of a run that is cut into pieces of a width, one to each stretch of 72 dibits.
+fn spread<const WIDTH: usize>(j: usize) -> usize
+    requires { (20 ≤ WIDTH) × ((WIDTH ≤ 36) × (j < 2 ^ 62)) }
+    ensures { result ≡ spread WIDTH j }
+{
+    72 * (j / WIDTH) + j % WIDTH
 }
 
 impl Block {
@@ -53,9 +61,9 @@ impl Block {
         let j = self.interleave().place(i);
         match self {
             Block::Fich => 20 + j,
-            Block::First => 120 + 72 * (j / 36) + j % 36,
-            Block::Second => 156 + 72 * (j / 36) + j % 36,
-            Block::Short => 120 + 72 * (j / 20) + j % 20,
+            Block::First => 120 + spread::<36>(j),
+            Block::Second => 156 + spread::<36>(j),
+            Block::Short => 120 + spread::<20>(j),
             Block::Solid => 120 + j,
         }
     }

@@ -3,3 +3,4 @@
 
 pub mod search;
 mod steps;
+pub mod work;

@@ -1,15 +1,15 @@
 //! From the readings of a block to its word.
 ghost use Rattle.std.specs.Prelude.{◌≡◌, ℕ, ◌+◌, ◌-◌, ◌*◌, ◌/◌, ◌<◌, ◌≤◌, ◌++◌, reverse, length, take, drop, replicate, slice_index, slice_set};
-ghost use Rattle.bits.specs.Bits.{number_of, numbers_of};
+ghost use Rattle.bits.specs.Bits.{Bits, number_of, numbers_of};
 ghost use Rattle.layout.specs.Places.{length_of};
-ghost use Rattle.fault.specs.Faults.{refused_or};
 ghost use Rattle.trellis.specs.Answers.{size_fault, Answers, Searched};
 ghost use Rattle.trellis.specs.Words.{heard};
 ghost use Rattle.trellis.specs.Steps.{traced, Holds};
 
 use crate::steps::step;
-use fault::{Fault, Memory};
-use layout::{Block, FRAME_PLACES};
+use crate::work::Work;
+use fault::Fault;
+use layout::Block;
 use measure::Measure;
 
 /// How many bytes the free inputs of the longest word fill.
@@ -35,8 +35,8 @@ fn weigh<M: Measure>(
     ensures { Holds M.means m.now (reverse (heard block readings.now)) bank.new (reverse decisions.new) }
 {
     bank[0] = m.start();
-    for t in 0..decisions.len() {
-        decisions[t] = step(m, block, t, readings, bank);
+    for (t, decision) in decisions.iter_mut().enumerate() {
+        *decision = step(m, block, t, readings, bank);
     }
 }
 
@@ -46,58 +46,49 @@ fn trace(decisions: &mut [u16], end: u16)
     ensures { decisions.new ≡ reverse (traced (reverse decisions.old) 0) }
 {
     let mut state = end;
-    let mut t = decisions.len();
-    while t > 0 {
-        t -= 1;
+    // By index: nothing is known of what a loop over `iter_mut().rev()` leaves.
+    for t in (0..decisions.len()).rev() {
         let ways = decisions[t];
         decisions[t] = state % 2;
         state = state / 2 + 8 * ((ways >> state) % 2);
     }
 }
 
-/// The byte of the eight bits from `at` on, the highest first.
-fn gathered(bits: &[u16], at: usize) -> u8
-    requires { (at + 8 ≤ length bits.now) × (((i : ℕ) → slice_index bits.now i < 2)) }
-    ensures { result ≡ number_of (take 8 (drop at bits.now)) }
+/// The byte of eight bits, the highest first.
+fn gathered(eight: &[u16]) -> u8
+    requires { (length eight.now ≤ 8) × ((i : ℕ) → slice_index eight.now i < 2) }
+    ensures { result ≡ number_of eight.now }
 {
     let mut byte = 0u8;
-    for k in 0..8usize {
-        byte = byte * 2 + bits[at + k] as u8;
+    for bit in eight {
+        byte = byte * 2 + *bit as u8;
     }
     byte
 }
 
-fn set_byte(word: &mut [u8; WORD_BYTES], bits: &[u16], k: usize)
-    requires { (k < 22) × ((8 * k + 8 ≤ length bits.now) × (((i : ℕ) → slice_index bits.now i < 2))) }
-    ensures { word.new ≡ slice_set word.old k (number_of (take 8 (drop (8 * k) bits.now))) }
-{
-    word[k] = gathered(bits, 8 * k);
-}
-
 /// The bits in bytes, as many as fill one.
 fn word_of(bits: &[u16]) -> [u8; WORD_BYTES]
-    requires { (length bits.now ≤ 180) × (((i : ℕ) → slice_index bits.now i < 2)) }
+    requires { (length bits.now ≤ 180) × Bits bits.now }
     ensures { result ≡ numbers_of 8 (length bits.now / 8) bits.now ++ replicate (22 - length bits.now / 8) 0 }
 {
     let mut word = [0; WORD_BYTES];
-    for k in 0..bits.len() / 8 {
-        set_byte(&mut word, bits, k);
+    for (k, eight) in bits.chunks_exact(8).enumerate() {
+        word[k] = gathered(eight);
     }
     word
 }
 
+/// The best word and its total, in a bank of sixteen totals and a decision for each reading.
 fn find<M: Measure>(
     m: &M,
     block: Block,
     readings: &[M::Reading],
-    totals: &mut [M::Total],
+    bank: &mut [M::Total],
     decisions: &mut [u16],
 ) -> Found<M::Total>
-    requires { (length readings.now ≡ 480) × ((length totals.old ≡ 32) × (length decisions.old ≡ length_of block)) }
+    requires { (length readings.now ≡ 480) × ((length bank.old ≡ 16) × (length decisions.old ≡ length_of block)) }
     ensures { Answers M.means m.now block readings.now result }
 {
-    // A step makes its totals in memory of its own, so that one bank is enough.
-    let bank = &mut totals[0..16];
     weigh(m, block, readings, bank, decisions);
     trace(decisions, 0);
     Found {
@@ -106,32 +97,19 @@ fn find<M: Measure>(
     }
 }
 
-/// Refuses the first memory of the wrong size.
-pub fn check_sizes(readings: usize, totals: usize, numbers: usize) -> Result<(), Fault>
-    ensures { result ≡ refused_or (size_fault readings totals numbers) tt }
-{
-    if readings != FRAME_PLACES {
-        return Err(Fault::WrongSize(Memory::Readings));
-    }
-    if totals != 32 {
-        return Err(Fault::WrongSize(Memory::Totals));
-    }
-    if numbers != 180 {
-        return Err(Fault::WrongSize(Memory::Numbers));
-    }
-    Ok(())
-}
-
-/// The word that fits the readings of a block best. Totals and numbers are work memory.
+/// The word that fits the readings of a block best.
 pub fn search<M: Measure>(
     m: &M,
     block: Block,
     readings: &[M::Reading],
-    totals: &mut [M::Total],
-    numbers: &mut [u16],
+    work: &mut Work<M::Total>,
 ) -> Result<Found<M::Total>, Fault>
-    ensures { Searched M.means m.now block readings.now (size_fault (length readings.now) (length totals.old) (length numbers.old)) result }
+    ensures answer { Searched M.means m.now block readings.now (size_fault (length readings.now) work.old.totals work.old.numbers) result }
+    ensures kept { work.new ≡ work.old }
 {
-    check_sizes(readings.len(), totals.len(), numbers.len())?;
-    Ok(find(m, block, readings, totals, &mut numbers[0..block.dibits()]))
+    work.check_sizes(readings.len())?;
+    // A step makes its totals in memory of its own, so that one bank is enough.
+    let bank = &mut work.totals[0..16];
+    let decisions = &mut work.numbers[0..block.dibits()];
+    Ok(find(m, block, readings, bank, decisions))
 }

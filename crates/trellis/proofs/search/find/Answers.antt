@@ -1,16 +1,13 @@
 use Rattle.std.proofs.Common.{arith}
 use Rattle.std.proofs.lemmas.List.{get_or_read}
-use Rattle.trellis.proofs.States.{bit_below}
 use Rattle.trellis.proofs.Finding.{sizes, path_bits, path_long, found}
 use Rattle.trellis.proofs.search.find.Goals as goal
 
 pub word_of-requires : goal.word_of-requires
 word_of-requires g c =
     let ds = c.weigh.new.decisions in
-    let path = c.trace.new.decisions in (
-      omega (arith, path_long ds path c.trace.ensures, (sizes c.args.block).3, c.requires.1.1),
-      λ i. bit_below path i (path_bits ds path c.trace.ensures),
-    )
+    let path = c.trace.new.decisions in
+    (omega (arith, path_long ds path c.trace.ensures, (sizes c.args.block).3, c.requires.1.1), path_bits ds path c.trace.ensures)
 
 pub returns : goal.returns
 returns g c =

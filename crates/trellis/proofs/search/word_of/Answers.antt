@@ -1,33 +1,68 @@
-use Rattle.std.proofs.Common.{◌≡◌, suc, ◌+◌, ◌-◌, ◌*◌, ◌/◌, [], ◌∷◌, ◌++◌, length, take, drop, set, replicate, sym, refl, ap, ◌∙◌, append_assoc, add-one, arith}
+use Rattle.std.proofs.Common.{◌≡◌, ℕ, suc, ◌+◌, ◌-◌, ◌*◌, ◌/◌, ◌<◌, List, [], ◌∷◌, ◌++◌, length, take, drop, set, replicate, sym, refl, ap, ◌∙◌, subst, append_assoc, add-one, arith, rules, length-append, length-drop, take_at, drop_at, drop-drop}
 use lib.Seq.{set_at}
-use Rattle.bits.specs.Bits.{number_of, numbers_of}
-use Rattle.bits.proofs.Numbers.{length-numbers_of, numbers_of_more}
+use Rattle.bits.specs.Bits.{Bits, number_of, numbers_of}
+use Rattle.bits.proofs.Numbers.{bits-drop, length-numbers_of, numbers_of_more}
+use Rattle.trellis.proofs.States.{bit_below}
 use Rattle.trellis.proofs.search.word_of.Goals as goal
 
-pub loop-k-init : goal.loop-k-init
-unfolding numbers_of
-loop-k-init c = refl
-
-pub set_byte-requires : goal.set_byte-requires
-set_byte-requires c = (omega (arith, c.requires.0), (omega arith, c.requires.1))
-
-pub loop-k-preserved : goal.loop-k-preserved
-loop-k-preserved c =
-    let k = c.loop-k.k in
-    let bits = c.args.bits.now in
+-- one byte more
+byte_more : (word bits eight : List ℕ) (k byte : ℕ) → k < 22 → take 8 (drop (8 * k) bits) ≡ eight → byte ≡ number_of eight
+    → word ≡ numbers_of 8 k bits ++ replicate (22 - k) 0 → set word k byte ≡ numbers_of 8 (k + 1) bits ++ replicate (22 - (k + 1)) 0
+byte_more word bits eight k byte room cut it e =
     let v = number_of (take 8 (drop (8 * k) bits)) in
     let front = numbers_of 8 k bits in
     let left = 22 - (k + 1) in
-    let more : 22 - k ≡ suc left = omega (arith, c.requires.0) in
-    c.set_byte.ensures
-    ∙ ap (λ l. set l k v) c.loop-k.invariant
+    let more : 22 - k ≡ suc left = omega arith in
+    ap (λ l. set l k byte) e
+    ∙ ap (λ b. set (front ++ replicate (22 - k) 0) k b) (it ∙ ap number_of (sym cut))
     ∙ ap (λ n. set (front ++ replicate n 0) k v) more
     ∙ set_at front 0 (replicate left 0) v k (length-numbers_of 8 k bits)
     ∙ sym (append_assoc front (v ∷ []) (replicate left 0))
     ∙ ap (λ l. l ++ replicate left 0) (sym (ap (λ n. numbers_of 8 n bits) (add-one k) ∙ numbers_of_more 8 k bits))
 
+bits-front : (xs ys : List ℕ) → Bits (xs ++ ys) → Bits xs
+bits-front [] ys h = tt
+bits-front (x ∷ xs) ys h = (h.0, bits-front xs ys h.1)
+
+pub loop-k-init : goal.loop-k-init
+unfolding numbers_of
+loop-k-init c = search rules
+
+pub gathered-requires : goal.gathered-requires
+gathered-requires c =
+    let s = c.in-Some.ensures.steps in
+    let i = c.loop-k.invariant in
+    let eight = c.in-Some.eight.now in
+    let cut = sym i.2 ∙ s.0.1.0 in
+    let size : length eight ≡ 8 = s.0.1.1 ∙ i.0 in
+    (omega (arith, size), λ j. bit_below eight j (bits-front eight _ (subst Bits cut (bits-drop (8 * c.loop-k.k-iterator.count) c.args.bits.now c.requires.1))))
+
+pub loop-k-preserved : goal.loop-k-preserved
+loop-k-preserved c =
+    let bits = c.args.bits.now in
+    let k = c.loop-k.k-iterator.count in
+    let s = c.in-Some.ensures.steps in
+    let i = c.loop-k.invariant in
+    let eight = c.in-Some.eight.now in
+    let rest = c.next.new.self.iter.rest.now in
+    let size : length eight ≡ 8 = s.0.1.1 ∙ i.0 in
+    let cut : drop (8 * k) bits ≡ eight ++ rest = sym i.2 ∙ s.0.1.0 in
+    let next : c.next.new.self.count ≡ k + 1 = s.2 in
+    let long : length bits - 8 * k ≡ 8 + length rest = sym (length-drop (8 * k) bits) ∙ ap length cut ∙ length-append eight rest ∙ omega (arith, size) in
+    let on : 8 * k + 8 ≡ 8 * c.next.new.self.count = omega (arith, next) in (
+      s.0.0 ∙ i.0,
+      omega (arith, next, long),
+      sym (drop_at eight rest 8 size) ∙ ap (drop 8) (sym cut) ∙ drop-drop 8 (8 * k) bits ∙ ap (λ n. drop n bits) on,
+      ap (λ j. set c.loop-k.word j c.gathered.result) s.1
+          ∙ byte_more c.loop-k.word bits eight k c.gathered.result (omega (arith, long, c.requires.0)) (ap (take 8) cut ∙ take_at eight rest 8 size) c.gathered.ensures i.3
+          ∙ ap (λ n. numbers_of 8 n bits ++ replicate (22 - n) 0) (sym next),
+    )
+
 pub returns : goal.returns
 returns c =
-    let n = length c.args.bits.now / 8 in
-    let e : c.loop-k.k ≡ n = omega arith in
-    c.loop-k.invariant ∙ ap (λ k. numbers_of 8 k c.args.bits.now ++ replicate (22 - k) 0) e
+    let bits = c.args.bits.now in
+    let k = c.loop-k.k-iterator.count in
+    let s = c.in-None.ensures.steps in
+    let i = c.loop-k.invariant in
+    let e : k ≡ length bits / 8 = omega (arith, s.0.1.0, i.0, i.1, length-drop (8 * k) bits, ap length i.2) in
+    i.3 ∙ ap (λ n. numbers_of 8 n bits ++ replicate (22 - n) 0) e

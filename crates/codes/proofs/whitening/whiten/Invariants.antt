@@ -2,7 +2,7 @@ use Rattle.std.proofs.Common.{◌≡◌, ◌<◌, ◌++◌, take, drop}
 use Rattle.bits.specs.Bits.{bits_of}
 use Rattle.codes.specs.Whitening.{whitened}
 use Rattle.codes.proofs.Whites.{white_from}
-use Rattle.codes.proofs.whitening.add_from.Given as goal
+use Rattle.codes.proofs.whitening.whiten.Given as goal
 
 abbrev pub invariant-loop-byte : goal.invariant-loop-byte
 invariant-loop-byte l =

@@ -1,12 +1,12 @@
-use Rattle.std.proofs.Common.{◌*◌, length, ap, ◌∙◌, arith, rules}
+use Rattle.std.proofs.Common.{◌*◌, length, arith, rules}
 use Rattle.bits.specs.Bits.{bits_of}
-use Rattle.codes.proofs.Whites.{white_from, white_start, white_more, white_all, recurs}
-use Rattle.codes.proofs.whitening.add_from.Goals as goal
+use Rattle.codes.proofs.Whites.{white_start, white_more, white_all, recurs}
+use Rattle.codes.proofs.whitening.whiten.Goals as goal
 
 pub loop-byte-init : goal.loop-byte-init
 loop-byte-init c =
     let bytes = c.args.bytes.now in
-    (omega (arith, c.requires), ap (λ r. white_from (bits_of 9 r) bytes) c.requires ∙ white_start bytes)
+    (omega arith, white_start bytes)
 
 pub loop-byte-preserved : goal.loop-byte-preserved
 loop-byte-preserved c = (
