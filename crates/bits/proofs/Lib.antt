@@ -1,3 +1,4 @@
+pub mod Chunks
 pub mod Numbers
 pub mod Sums
 pub mod Divides

@@ -8,9 +8,8 @@ ghost use Rattle.std.proofs.Common.{rules};
 
 use bits::Dibit;
 use fault::Fault;
+use layout::FRAME_PLACES;
 use measure::{Measure, MutedMarks};
-
-const FRAME_PLACES: usize = 480;
 
 const SLOTS: usize = 8;
 
@@ -35,8 +34,8 @@ fn covers(slots: &[Stretch; SLOTS], used: u16, place: usize) -> bool
     ensures { result ≡ covered (take used slots.now) place }
 {
     let mut inside = false;
-    for i in 0..SLOTS as u16 {
-        inside |= (i < used) & slots[i as usize].holds(place);
+    for (i, slot) in slots.iter().enumerate() {
+        inside |= (i < usize::from(used)) & slot.holds(place);
     }
     inside
 }

@@ -1,5 +1,5 @@
 -- What a caller from C is given of a search.
-use Rattle.std.specs.Prelude.{◌≡◌, ℕ, zero, suc, ◌+◌, ◌*◌, Bool, cond, List, length, Ok, Err, Result, ◌==◌, slice_index}
+use Rattle.std.specs.Prelude.{◌≡◌, ℕ, zero, suc, ◌+◌, ◌*◌, Bool, cond, List, length, Some, None, Ok, Err, Option, Result, ◌==◌, slice_index}
 use Rattle.fault.specs.declared.Fault.{Fault}
 use Rattle.fault.specs.Faults.{refused_or}
 use Rattle.layout.specs.declared.Block.{Block}
@@ -23,6 +23,16 @@ laid found word = cond (length word == 22) found word
 abbrev pub Given : Result (Found ℕ) Fault → List ℕ → List ℕ → ℕ → Type 0
 Given (Ok found) before after total = (after ≡ laid found.word before) × (total ≡ found.total)
 Given (Err fault) before after total = (after ≡ before) × (total ≡ 18446744073709551615)
+
+-- the same, with no total for a refusal
+abbrev pub Told : {T : Type 0} → Result (Found T) Fault → List ℕ → List ℕ → Option T → Type 0
+Told (Ok found) before after total = (after ≡ laid found.word before) × (total ≡ Some found.total)
+Told (Err fault) before after total = (after ≡ before) × (total ≡ None)
+
+-- what the search answers is told
+abbrev pub Searches : {S R T : Type 0} → Meaning S R T → S → Bool → List R → List ℕ → List ℕ → Option T → Type 0
+Searches {T = T} μ m long readings before after total =
+    (answer : Result (Found T) Fault) × Searched μ m (searched_block long) readings (size_fault (length readings) 32 180) answer × Told answer before after total
 
 -- a call gives what the search answers
 abbrev pub Called : {S R : Type 0} → Meaning S R ℕ → S → Bool → List R → List ℕ → List ℕ → ℕ → Type 0

@@ -4,15 +4,16 @@
 ghost use Rattle.std.specs.Prelude.{◌≡◌, ℕ, ◌/◌, length};
 ghost use Rattle.measure.specs.Marks.{marks_means};
 ghost use Rattle.measure.specs.Levels.{levels_means};
-ghost use Rattle.search_bench.specs.Calls.{searched_block, laid, Called, mute_of, MutedCall};
+ghost use Rattle.search_bench.specs.Calls.{searched_block, laid, Searches, Called, mute_of, MutedCall};
 
 use fault::Fault;
 use layout::Block;
 use measure::levels::Levels;
 use measure::marks::Marks;
-use measure::{Measure, MutedMarks};
+use measure::Measure;
 use mute::Mute;
 use trellis::search::{WORD_BYTES, search};
+use trellis::work::{NUMBERS, TOTALS, Work};
 
 /// What a search that refused answers for a total.
 const REFUSED: u64 = u64::MAX;
@@ -31,18 +32,22 @@ fn put(found: &[u8; WORD_BYTES], word: &mut [u8])
     }
 }
 
-fn by_marks<M: MutedMarks>(m: &M, long: bool, readings: &[u8], word: &mut [u8]) -> u64
-    ensures { Called M.Measure.means m.now long readings.now word.old word.new result }
+/// Lays the word that a search finds into `word`; the answer is its total, unless the search refused.
+fn searched<M: Measure>(
+    m: &M,
+    long: bool,
+    readings: &[M::Reading],
+    totals: &mut [M::Total],
+    word: &mut [u8],
+) -> Option<M::Total>
+    requires { length totals.old ≡ 32 }
+    ensures { Searches M.means m.now long readings.now word.old word.new result }
 {
-    let mut totals = [0u16; 32];
-    let mut numbers = [0u16; 180];
-    match search(m, block_of(long), readings, &mut totals, &mut numbers) {
-        Ok(found) => {
-            put(&found.word, word);
-            u64::from(found.total)
-        }
-        Err(_) => REFUSED,
-    }
+    let mut numbers = [0; NUMBERS];
+    let mut work = Work::new(totals, &mut numbers);
+    let found = search(m, block_of(long), readings, &mut work).ok()?;
+    put(&found.word, word);
+    Some(found.total)
 }
 
 /// Searches a frame of 480 marks for the FICH, or for the first of two units if `long`. The word has 22 bytes.
@@ -50,15 +55,15 @@ fn by_marks<M: MutedMarks>(m: &M, long: bool, readings: &[u8], word: &mut [u8]) 
 pub extern "C" fn bench_marks(long: bool, readings: &[u8], word: &mut [u8]) -> u64
     ensures { Called marks_means (record {}) long readings.now word.old word.new result }
 {
-    by_marks(&Marks, long, readings, word)
+    searched(&Marks, long, readings, &mut [0; TOTALS], word).map_or(REFUSED, u64::from)
 }
 
 fn muted(stretches: &[u16]) -> Result<Mute<Marks>, Fault>
     ensures { result ≡ mute_of (length stretches.now / 2) stretches.now }
 {
     let mut mute = Mute::new(Marks);
-    for i in 0..stretches.len() / 2 {
-        mute.add(stretches[2 * i] as usize, stretches[2 * i + 1] as usize)?;
+    for pair in stretches.chunks_exact(2) {
+        mute.add(usize::from(pair[0]), usize::from(pair[1]))?;
     }
     Ok(mute)
 }
@@ -74,7 +79,7 @@ pub extern "C" fn bench_muted(
     ensures { MutedCall (mute_of (length stretches.now / 2) stretches.now) long readings.now word.old word.new result }
 {
     match muted(stretches) {
-        Ok(mute) => by_marks(&mute, long, readings, word),
+        Ok(mute) => searched(&mute, long, readings, &mut [0; TOTALS], word).map_or(REFUSED, u64::from),
         Err(_) => REFUSED,
     }
 }
@@ -84,13 +89,5 @@ pub extern "C" fn bench_muted(
 pub extern "C" fn bench_levels(long: bool, readings: &[i16], word: &mut [u8]) -> u64
     ensures { Called levels_means (record {}) long readings.now word.old word.new result }
 {
-    let mut totals = [0u64; 32];
-    let mut numbers = [0u16; 180];
-    match search(&Levels, block_of(long), readings, &mut totals, &mut numbers) {
-        Ok(found) => {
-            put(&found.word, word);
-            found.total
-        }
-        Err(_) => REFUSED,
-    }
+    searched(&Levels, long, readings, &mut [0; TOTALS], word).unwrap_or(REFUSED)
 }

@@ -1,9 +1,9 @@
 //! The word of a block, and how much damage to the block it survives.
 #![tactic(auto)]
 
-ghost use Rattle.std.specs.Prelude.{length};
+ghost use Rattle.std.specs.Prelude.{◌≡◌};
 ghost use Rattle.measure.specs.Levels.{levels_means};
-ghost use Rattle.trellis.specs.Answers.{size_fault, Searched};
+ghost use Rattle.trellis.specs.Answers.{work_fault, Searched};
 ghost use Rattle.survival.specs.Distance.{Seven};
 ghost use Rattle.survival.specs.Survival.{Survives, UndamagedMarks, UndamagedLevels};
 
@@ -12,64 +12,36 @@ use layout::Block;
 use measure::MutedMarks;
 use measure::levels::Levels;
 use trellis::search::{Found, search};
+use trellis::work::Work;
 
 #[cfg(test)]
 mod tests;
 
-// What the search finds of marks, and how much damage it bears.
-fn search_marks<M: MutedMarks>(
-    m: &M,
-    block: Block,
-    readings: &[u8],
-    totals: &mut [u16],
-    numbers: &mut [u16],
-) -> Result<Found<u16>, Fault>
-    ensures searched { Searched M.Measure.means m.now block readings.now (size_fault (length readings.now) (length totals.old) (length numbers.old)) result }
-    ensures survives { Survives (M.MutedMarks.muted m.now) block readings.now (size_fault (length readings.now) (length totals.old) (length numbers.old)) result }
-    ensures undamaged { UndamagedMarks (M.MutedMarks.muted m.now) block readings.now (size_fault (length readings.now) (length totals.old) (length numbers.old)) result }
-    ensures distance { Seven }
-{
-    search(m, block, readings, totals, numbers)
-}
-
-/// The word of a block whose readings are marks, some of them muted. Totals and numbers are work memory.
+/// The word of a block whose readings are marks, some of them muted.
 pub fn read_marks<M: MutedMarks>(
     m: &M,
     block: Block,
     readings: &[u8],
-    totals: &mut [u16],
-    numbers: &mut [u16],
+    work: &mut Work<u16>,
 ) -> Result<Found<u16>, Fault>
-    ensures searched { Searched M.Measure.means m.now block readings.now (size_fault (length readings.now) (length totals.old) (length numbers.old)) result }
-    ensures survives { Survives (M.MutedMarks.muted m.now) block readings.now (size_fault (length readings.now) (length totals.old) (length numbers.old)) result }
-    ensures undamaged { UndamagedMarks (M.MutedMarks.muted m.now) block readings.now (size_fault (length readings.now) (length totals.old) (length numbers.old)) result }
+    ensures searched { Searched M.Measure.means m.now block readings.now (work_fault readings.now work.old) result }
+    ensures survives { Survives (M.MutedMarks.muted m.now) block readings.now (work_fault readings.now work.old) result }
+    ensures undamaged { UndamagedMarks (M.MutedMarks.muted m.now) block readings.now (work_fault readings.now work.old) result }
     ensures distance { Seven }
+    ensures kept { work.new ≡ work.old }
 {
-    search_marks(m, block, readings, totals, numbers)
+    search(m, block, readings, work)
 }
 
-// The same of levels.
-fn search_levels(
-    block: Block,
-    readings: &[i16],
-    totals: &mut [u64],
-    numbers: &mut [u16],
-) -> Result<Found<u64>, Fault>
-    ensures searched { Searched levels_means (record {}) block readings.now (size_fault (length readings.now) (length totals.old) (length numbers.old)) result }
-    ensures undamaged { UndamagedLevels block readings.now (size_fault (length readings.now) (length totals.old) (length numbers.old)) result }
-{
-    search(&Levels, block, readings, totals, numbers)
-}
-
-/// The word of a block whose readings are levels. Totals and numbers are work memory.
+/// The word of a block whose readings are levels. Its theorem is another than that of marks.
 pub fn read_levels(
     block: Block,
     readings: &[i16],
-    totals: &mut [u64],
-    numbers: &mut [u16],
+    work: &mut Work<u64>,
 ) -> Result<Found<u64>, Fault>
-    ensures searched { Searched levels_means (record {}) block readings.now (size_fault (length readings.now) (length totals.old) (length numbers.old)) result }
-    ensures undamaged { UndamagedLevels block readings.now (size_fault (length readings.now) (length totals.old) (length numbers.old)) result }
+    ensures searched { Searched levels_means (record {}) block readings.now (work_fault readings.now work.old) result }
+    ensures undamaged { UndamagedLevels block readings.now (work_fault readings.now work.old) result }
+    ensures kept { work.new ≡ work.old }
 {
-    search_levels(block, readings, totals, numbers)
+    search(&Levels, block, readings, work)
 }

@@ -1,5 +1,5 @@
 //! Words of damaged blocks, as an independent implementation finds them.
-ghost use Rattle.std.specs.Prelude.{◌≡◌, length};
+ghost use Rattle.std.specs.Prelude.{◌<◌};
 
 use crate::{read_levels, read_marks};
 use fault::{Fault, Memory};
@@ -9,6 +9,7 @@ use measure::{Measure, MutedMarks};
 use mute::Mute;
 use std::process::Abort;
 use std::test::Fail;
+use trellis::work::Work;
 
 // Computed by an independent implementation, as all readings and words below.
 const FICH_MARKS: [[u8; 20]; 5] = [
@@ -62,27 +63,14 @@ const FICH_LEVELS: [[i16; 5]; 20] = [
 const LEVELS_WORD: &[u8; 22] =
     b"\x6E\x73\x6C\xDC\x04\x01\xFC\xE1\x24\x4B\x1E\xD2\0\0\0\0\0\0\0\0\0\0";
 
-fn lay_fich(frame: &mut [u8], marks: &[[u8; 20]; 5])
-    requires { length frame.old ≡ 480 }
+/// Lays rows into a frame, each at the front of a stretch of its own.
+fn lay<T: Copy, const N: usize>(frame: &mut [T], apart: usize, rows: &[[T; N]])
+    requires { 0 < apart }
 {
-    for k in 0..5usize {
-        frame[20 + 20 * k..40 + 20 * k].copy_from_slice(&marks[k]);
-    }
-}
-
-fn lay_short(frame: &mut [u8], marks: &[[u8; 20]; 5])
-    requires { length frame.old ≡ 480 }
-{
-    for k in 0..5usize {
-        frame[120 + 72 * k..140 + 72 * k].copy_from_slice(&marks[k]);
-    }
-}
-
-fn lay_fich_levels(frame: &mut [i16], levels: &[[i16; 5]; 20])
-    requires { length frame.old ≡ 480 }
-{
-    for k in 0..20usize {
-        frame[20 + 5 * k..25 + 5 * k].copy_from_slice(&levels[k]);
+    for (stretch, row) in frame.chunks_exact_mut(apart).zip(rows) {
+        for (reading, given) in stretch.iter_mut().zip(row) {
+            *reading = *given;
+        }
     }
 }
 
@@ -96,7 +84,7 @@ fn check_marks<M: MutedMarks>(
 ) -> Result<(), Fail> {
     let mut totals = [0; 32];
     let mut numbers = [0; 180];
-    let found = read_marks(m, block, frame, &mut totals, &mut numbers)?;
+    let found = read_marks(m, block, frame, &mut Work::new(&mut totals, &mut numbers))?;
     assert!(rt; found.word == *word);
     assert_eq!(rt; found.total, total);
     Ok(())
@@ -106,7 +94,7 @@ fn check_marks<M: MutedMarks>(
 #[test]
 fn at_the_bound(rt: HostRuntime) -> Result<(), Fail> {
     let mut frame = [0; 480];
-    lay_fich(&mut frame, &FICH_MARKS);
+    lay(&mut frame[20..120], 20, &FICH_MARKS);
     check_marks(&rt, &Marks, Block::Fich, &frame, FICH_WORD, 2)?;
     let mut mute = Mute::new(Marks);
     mute.add(70, 1)?;
@@ -117,7 +105,7 @@ fn at_the_bound(rt: HostRuntime) -> Result<(), Fail> {
 #[test]
 fn past_the_bound(rt: HostRuntime) -> Result<(), Fail> {
     let mut frame = [0; 480];
-    lay_short(&mut frame, &SHORT_MARKS);
+    lay(&mut frame[120..480], 72, &SHORT_MARKS);
     check_marks(&rt, &Marks, Block::Short, &frame, SHORT_WORD, 13)?;
     let mut mute = Mute::new(Marks);
     mute.add(343, 10)?;
@@ -127,10 +115,11 @@ fn past_the_bound(rt: HostRuntime) -> Result<(), Fail> {
 #[test]
 fn levels(rt: HostRuntime) -> Result<(), Fail> {
     let mut frame = [0; 480];
-    lay_fich_levels(&mut frame, &FICH_LEVELS);
+    lay(&mut frame[20..120], 5, &FICH_LEVELS);
     let mut totals = [0; 32];
     let mut numbers = [0; 180];
-    let found = read_levels(Block::Fich, &frame, &mut totals, &mut numbers)?;
+    let mut work = Work::new(&mut totals, &mut numbers);
+    let found = read_levels(Block::Fich, &frame, &mut work)?;
     assert!(rt; found.word == *LEVELS_WORD);
     assert_eq!(rt; found.total, 129_913_074);
     Ok(())
@@ -139,9 +128,10 @@ fn levels(rt: HostRuntime) -> Result<(), Fail> {
 #[test]
 fn sizes_are_refused(rt: HostRuntime) {
     let mut frame = [0; 480];
-    lay_fich(&mut frame, &FICH_MARKS);
+    lay(&mut frame[20..120], 20, &FICH_MARKS);
     let mut totals = [0; 31];
     let mut numbers = [0; 180];
-    let found = read_marks(&Marks, Block::Fich, &frame, &mut totals, &mut numbers);
+    let mut work = Work::new(&mut totals, &mut numbers);
+    let found = read_marks(&Marks, Block::Fich, &frame, &mut work);
     assert_eq!(rt; found.err(), Some(Fault::WrongSize(Memory::Totals)));
 }

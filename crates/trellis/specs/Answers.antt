@@ -1,5 +1,5 @@
 -- What the search answers for a block, and when it refuses.
-use Rattle.std.specs.Prelude.{◌≡◌, ℕ, ◌-◌, ◌/◌, cond, List, [], ◌∷◌, ◌++◌, reverse, take, drop, replicate, Some, None, Ok, Err, Option, Result, ◌==◌}
+use Rattle.std.specs.Prelude.{◌≡◌, ℕ, ◌-◌, ◌/◌, cond, List, [], ◌∷◌, ◌++◌, reverse, length, take, drop, replicate, Some, None, Ok, Err, Option, Result, ◌==◌}
 use Rattle.bits.specs.Bits.{byte_bits}
 use Rattle.fault.specs.declared.Fault.{Fault}
 use Rattle.fault.specs.declared.Fault.TheVariants.{WrongSize}
@@ -7,6 +7,7 @@ use Rattle.fault.specs.declared.Memory.TheVariants.{Readings, Totals, Numbers}
 use Rattle.layout.specs.declared.Block.{Block}
 use Rattle.measure.specs.Meaning.{Meaning}
 use Rattle.trellis.specs.declared.search.Found.{Found}
+use Rattle.trellis.specs.Sizes.{Sizes}
 use Rattle.trellis.specs.Words.{heard, free_inputs, word_total, Word, Unbeaten, Decisive}
 use Rattle.trellis.specs.Search.{answer}
 
@@ -20,6 +21,10 @@ size_fault readings totals numbers =
     cond (readings == 480)
     (cond (totals == 32) (cond (numbers == 180) None (Some (WrongSize Numbers))) (Some (WrongSize Totals)))
     (Some (WrongSize Readings))
+
+-- the same of the readings and the work memory of a call
+abbrev pub work_fault : {R : Type 0} → List R → Sizes → Option Fault
+work_fault readings work = size_fault (length readings) work.totals work.numbers
 
 module _ {S R T : Type 0} (μ : Meaning S R T) (m : S) (block : Block) (readings : List R) where
   -- what is found is the best word into the all-0 state: its total is its own, no word beats it, and a decisive word is it

@@ -2,7 +2,7 @@
 ghost use Rattle.std.specs.Prelude.{◌≡◌, ℕ, ◌+◌, ◌-◌, ◌*◌, ◌/◌, ◌<◌, ◌≤◌, ◌++◌, reverse, length, take, drop, replicate, slice_index, slice_set};
 ghost use Rattle.bits.specs.Bits.{Bits, number_of, numbers_of};
 ghost use Rattle.layout.specs.Places.{length_of};
-ghost use Rattle.trellis.specs.Answers.{size_fault, Answers, Searched};
+ghost use Rattle.trellis.specs.Answers.{work_fault, Answers, Searched};
 ghost use Rattle.trellis.specs.Words.{heard};
 ghost use Rattle.trellis.specs.Steps.{traced, Holds};
 
@@ -104,7 +104,7 @@ pub fn search<M: Measure>(
     readings: &[M::Reading],
     work: &mut Work<M::Total>,
 ) -> Result<Found<M::Total>, Fault>
-    ensures answer { Searched M.means m.now block readings.now (size_fault (length readings.now) work.old.totals work.old.numbers) result }
+    ensures answer { Searched M.means m.now block readings.now (work_fault readings.now work.old) result }
     ensures kept { work.new ≡ work.old }
 {
     work.check_sizes(readings.len())?;

@@ -1,6 +1,7 @@
 use Rattle.std.proofs.Common.{◌≡◌, ℕ, suc, ◌+◌, ◌-◌, ◌*◌, ◌/◌, ◌<◌, List, [], ◌∷◌, ◌++◌, length, take, drop, set, replicate, sym, refl, ap, ◌∙◌, subst, append_assoc, add-one, arith, rules, length-append, length-drop, take_at, drop_at, drop-drop}
 use lib.Seq.{set_at}
 use Rattle.bits.specs.Bits.{Bits, number_of, numbers_of}
+use Rattle.bits.proofs.Chunks.{chunk}
 use Rattle.bits.proofs.Numbers.{bits-drop, length-numbers_of, numbers_of_more}
 use Rattle.trellis.proofs.States.{bit_below}
 use Rattle.trellis.proofs.search.word_of.Goals as goal
@@ -48,13 +49,12 @@ loop-k-preserved c =
     let size : length eight ≡ 8 = s.0.1.1 ∙ i.0 in
     let cut : drop (8 * k) bits ≡ eight ++ rest = sym i.2 ∙ s.0.1.0 in
     let next : c.next.new.self.count ≡ k + 1 = s.2 in
-    let long : length bits - 8 * k ≡ 8 + length rest = sym (length-drop (8 * k) bits) ∙ ap length cut ∙ length-append eight rest ∙ omega (arith, size) in
-    let on : 8 * k + 8 ≡ 8 * c.next.new.self.count = omega (arith, next) in (
+    let more = chunk 8 k bits eight rest (omega arith) cut size in (
       s.0.0 ∙ i.0,
-      omega (arith, next, long),
-      sym (drop_at eight rest 8 size) ∙ ap (drop 8) (sym cut) ∙ drop-drop 8 (8 * k) bits ∙ ap (λ n. drop n bits) on,
+      omega (arith, next, more.fits),
+      more.left ∙ ap (λ n. drop (8 * n) bits) (sym next),
       ap (λ j. set c.loop-k.word j c.gathered.result) s.1
-          ∙ byte_more c.loop-k.word bits eight k c.gathered.result (omega (arith, long, c.requires.0)) (ap (take 8) cut ∙ take_at eight rest 8 size) c.gathered.ensures i.3
+          ∙ byte_more c.loop-k.word bits eight k c.gathered.result (omega (arith, more.fits, c.requires.0)) (ap (take 8) cut ∙ take_at eight rest 8 size) c.gathered.ensures i.3
           ∙ ap (λ n. numbers_of 8 n bits ++ replicate (22 - n) 0) (sym next),
     )
 
