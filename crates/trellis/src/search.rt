@@ -6,7 +6,7 @@ ghost use Rattle.trellis.specs.Answers.{work_fault, Answers, Searched};
 ghost use Rattle.trellis.specs.Words.{heard};
 ghost use Rattle.trellis.specs.Steps.{traced, Holds};
 
-use crate::steps::step;
+use crate::steps::{STATES, step};
 use crate::work::Work;
 use fault::Fault;
 use layout::Block;
@@ -28,10 +28,10 @@ fn weigh<M: Measure>(
     m: &M,
     block: Block,
     readings: &[M::Reading],
-    bank: &mut [M::Total],
+    bank: &mut [M::Total; STATES],
     decisions: &mut [u16],
 )
-    requires { (length readings.now ≡ 480) × ((length bank.old ≡ 16) × (length decisions.old ≡ length_of block)) }
+    requires { (length readings.now ≡ 480) × (length decisions.old ≡ length_of block) }
     ensures { Holds M.means m.now (reverse (heard block readings.now)) bank.new (reverse decisions.new) }
 {
     bank[0] = m.start();
@@ -78,17 +78,18 @@ fn word_of(bits: &[u16]) -> [u8; WORD_BYTES]
     word
 }
 
-/// The best word and its total, in a bank of sixteen totals and a decision for each reading.
+/// The best word and its total, worked out in sixteen totals and a number for each reading.
 fn find<M: Measure>(
     m: &M,
     block: Block,
     readings: &[M::Reading],
-    bank: &mut [M::Total],
+    totals: &mut [M::Total],
     decisions: &mut [u16],
 ) -> Found<M::Total>
-    requires { (length readings.now ≡ 480) × ((length bank.old ≡ 16) × (length decisions.old ≡ length_of block)) }
+    requires { (length readings.now ≡ 480) × ((length totals.old ≡ 16) × (length decisions.old ≡ length_of block)) }
     ensures { Answers M.means m.now block readings.now result }
 {
+    let bank = totals.as_mut_array().unwrap();
     weigh(m, block, readings, bank, decisions);
     trace(decisions, 0);
     Found {
@@ -109,7 +110,7 @@ pub fn search<M: Measure>(
 {
     work.check_sizes(readings.len())?;
     // A step makes its totals in memory of its own, so that one bank is enough.
-    let bank = &mut work.totals[0..16];
-    let decisions = &mut work.numbers[0..block.dibits()];
-    Ok(find(m, block, readings, bank, decisions))
+    let totals = &mut work.totals[0..STATES];
+    let numbers = &mut work.numbers[0..block.dibits()];
+    Ok(find(m, block, readings, totals, numbers))
 }

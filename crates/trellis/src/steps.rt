@@ -8,6 +8,9 @@ use bits::Dibit;
 use layout::Block;
 use measure::Measure;
 
+/// How many states the coder has: its last four inputs.
+pub(crate) const STATES: usize = 16;
+
 /// The totals of the two states that share their states before, and which way won: 1 for the even, 2 for the odd.
 #[derive(Clone, Copy)]
 struct Pair<T> {
@@ -86,10 +89,10 @@ fn butterfly<M: Measure>(
     both: bool,
     place: usize,
     reading: &M::Reading,
-    old: &[M::Total],
+    old: &[M::Total; STATES],
     j: usize,
 ) -> Pair<M::Total>
-    requires { (j < 8) × (length old.now ≡ 16) }
+    requires { j < 8 }
     ensures even { result.even ≡ kept M.means m.now both (hears place reading.now) old.now (2 * j) }
     ensures odd { result.odd ≡ kept M.means m.now both (hears place reading.now) old.now (2 * j + 1) }
     ensures ones { result.ones ≡ (if one_wins M.means m.now (hears place reading.now) old.now (2 * j) then 1 else 0) + (if one_wins M.means m.now (hears place reading.now) old.now (2 * j + 1) then 2 else 0) }
@@ -104,8 +107,8 @@ fn butterfly<M: Measure>(
     }
 }
 
-fn store<T: Copy>(bank: &mut [T], state: usize, total: T)
-    requires { state < length bank.old }
+fn store<T: Copy>(bank: &mut [T; STATES], state: usize, total: T)
+    requires { state < 16 }
     ensures { bank.new ≡ slice_set bank.old state total }
 {
     bank[state] = total;
@@ -117,10 +120,9 @@ fn advance<M: Measure>(
     both: bool,
     place: usize,
     reading: &M::Reading,
-    old: &[M::Total],
-    new: &mut [M::Total],
+    old: &[M::Total; STATES],
+    new: &mut [M::Total; STATES],
 ) -> u16
-    requires { (length old.now ≡ 16) × (length new.old ≡ 16) }
     ensures totals { (s : ℕ) → s < 16 → at_bank M.means m.now new.new s ≡ kept M.means m.now both (hears place reading.now) old.now s }
     ensures decisions { result ≡ packed (one_wins M.means m.now (hears place reading.now) old.now) 16 }
 {
@@ -147,16 +149,15 @@ fn step_at<M: Measure>(
     t: usize,
     place: usize,
     readings: &[M::Reading],
-    bank: &mut [M::Total],
+    bank: &mut [M::Total; STATES],
 ) -> u16
-    requires { (place < length readings.now) × (length bank.old ≡ 16) }
+    requires { place < length readings.now }
     ensures { Stepped M.means m.now t place readings.now bank.old bank.new result }
 {
     let both = all_reached(t);
-    let mut own = [m.start(); 16];
-    let next: &mut [M::Total] = &mut own;
-    let decisions = advance(m, both, place, &readings[place], bank, next);
-    bank.copy_from_slice(next);
+    let mut next = [m.start(); STATES];
+    let decisions = advance(m, both, place, &readings[place], bank, &mut next);
+    *bank = next;
     if_both(both, decisions, 0)
 }
 
@@ -166,9 +167,9 @@ pub(crate) fn step<M: Measure>(
     block: Block,
     t: usize,
     readings: &[M::Reading],
-    bank: &mut [M::Total],
+    bank: &mut [M::Total; STATES],
 ) -> u16
-    requires { (t < length_of block) × ((length readings.now ≡ 480) × (length bank.old ≡ 16)) }
+    requires { (t < length_of block) × (length readings.now ≡ 480) }
     ensures { Stepped M.means m.now t (stands block t) readings.now bank.old bank.new result }
 {
     step_at(m, t, block.place(t), readings, bank)

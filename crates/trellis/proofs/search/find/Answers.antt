@@ -1,5 +1,5 @@
 use Rattle.std.proofs.Common.{arith}
-use Rattle.std.proofs.lemmas.List.{get_or_read}
+use Rattle.std.proofs.lemmas.List.{get_or_default}
 use Rattle.trellis.proofs.Finding.{sizes, path_bits, path_long, found}
 use Rattle.trellis.proofs.search.find.Goals as goal
 
@@ -14,6 +14,6 @@ returns g c =
     let μ = g.M.Measure.means in
     let m = c.args.m.now in
     found μ m g.met.M.Measure.lawful c.args.block c.args.readings.now c.weigh.new.bank c.weigh.new.decisions
-    c.trace.new.decisions c.word_of.result c.index-bank-0.result
+    c.trace.new.decisions c.word_of.result _
     c.requires.0 (omega (arith, c.requires.1.1)) c.weigh.ensures c.trace.ensures c.word_of.ensures
-    (get_or_read c.weigh.new.bank 0 c.index-bank-0.result (omega arith) c.index-bank-0.is (μ.start m))
+    (get_or_default c.weigh.new.bank 0 c.index-bank-0.result (μ.start m) (omega arith))

@@ -1,5 +1,5 @@
 use Rattle.std.proofs.Common.{◌+◌, ◌*◌, cond, get_or, refl, ap, ◌∙◌, arith}
-use Rattle.std.proofs.lemmas.List.{get_or_read}
+use Rattle.std.proofs.lemmas.List.{get_or_default}
 use Rattle.trellis.specs.Steps.{hears, winner}
 use Rattle.trellis.proofs.Butterflies.{four_ways, winner_is, ones_are}
 use Rattle.trellis.proofs.steps.butterfly.Goals as goal
@@ -12,9 +12,9 @@ returns g c =
     let j = c.args.j in
     let both = c.args.both in
     let y = hears c.args.place c.args.reading.now in
-    let low = get_or_read old j c.index-old-j.result (omega (arith, c.requires.1)) c.index-old-j.is (μ.start m) in
-    let high = get_or_read old (j + 8) c.index-old-j-2.result (omega (arith, c.requires.1)) c.index-old-j-2.is (μ.start m) in
-    let ways = four_ways μ m y old j _ _ _ _ c.requires.0 low high c.output_of.ensures refl in
+    let low = get_or_default old j c.index-old-j.result (μ.start m) (omega arith) in
+    let high = get_or_default old (j + 8) c.index-old-j-2.result (μ.start m) (omega arith) in
+    let ways = four_ways μ m y old j _ _ _ _ c.requires low high c.output_of.ensures refl in
     let even_zero = ap (λ l. get_or l 0 c.index-ways-0.result) c.four_ways-ways.ensures ∙ ways.even_zero in
     let even_one = ap (λ l. get_or l 1 c.index-ways-1.result) c.four_ways-ways.ensures ∙ ways.even_one in
     let odd_zero = ap (λ l. get_or l 2 c.index-ways-2.result) c.four_ways-ways.ensures ∙ ways.odd_zero in
