@@ -9,7 +9,7 @@ ghost use Rattle.trellis.specs.Steps.{traced, Holds};
 use crate::steps::{STATES, step};
 use crate::work::Work;
 use fault::Fault;
-use layout::Block;
+use layout::{Block, FRAME_PLACES};
 use measure::Measure;
 
 /// How many bytes the free inputs of the longest word fill.
@@ -27,11 +27,11 @@ pub struct Found<T> {
 fn weigh<M: Measure>(
     m: &M,
     block: Block,
-    readings: &[M::Reading],
+    readings: &[M::Reading; FRAME_PLACES],
     bank: &mut [M::Total; STATES],
     decisions: &mut [u16],
 )
-    requires { (length readings.now ≡ 480) × (length decisions.old ≡ length_of block) }
+    requires { length decisions.old ≡ length_of block }
     ensures { Holds M.means m.now (reverse (heard block readings.now)) bank.new (reverse decisions.new) }
 {
     bank[0] = m.start();
@@ -82,11 +82,11 @@ fn word_of(bits: &[u16]) -> [u8; WORD_BYTES]
 fn find<M: Measure>(
     m: &M,
     block: Block,
-    readings: &[M::Reading],
+    readings: &[M::Reading; FRAME_PLACES],
     totals: &mut [M::Total],
     decisions: &mut [u16],
 ) -> Found<M::Total>
-    requires { (length readings.now ≡ 480) × ((length totals.old ≡ 16) × (length decisions.old ≡ length_of block)) }
+    requires { (length totals.old ≡ 16) × (length decisions.old ≡ length_of block) }
     ensures { Answers M.means m.now block readings.now result }
 {
     let bank = totals.as_mut_array().unwrap();
@@ -112,5 +112,6 @@ pub fn search<M: Measure>(
     // A step makes its totals in memory of its own, so that one bank is enough.
     let totals = &mut work.totals[0..STATES];
     let numbers = &mut work.numbers[0..block.dibits()];
+    let readings = readings.as_array().unwrap();
     Ok(find(m, block, readings, totals, numbers))
 }

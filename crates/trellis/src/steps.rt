@@ -5,7 +5,7 @@ ghost use Rattle.trellis.specs.Search.{output};
 ghost use Rattle.trellis.specs.Steps.{packed, at_bank, one_wins, kept, turned, hears, Stepped};
 
 use bits::Dibit;
-use layout::Block;
+use layout::{Block, FRAME_PLACES};
 use measure::Measure;
 
 /// How many states the coder has: its last four inputs.
@@ -143,34 +143,22 @@ fn all_reached(t: usize) -> bool
     t >= 4
 }
 
-/// The step for the reading at a place. The new totals are made in memory that nothing else reaches.
-fn step_at<M: Measure>(
-    m: &M,
-    t: usize,
-    place: usize,
-    readings: &[M::Reading],
-    bank: &mut [M::Total; STATES],
-) -> u16
-    requires { place < length readings.now }
-    ensures { Stepped M.means m.now t place readings.now bank.old bank.new result }
-{
-    let both = all_reached(t);
-    let mut next = [m.start(); STATES];
-    let decisions = advance(m, both, place, &readings[place], bank, &mut next);
-    *bank = next;
-    if_both(both, decisions, 0)
-}
-
-/// One reading further: the totals of the bank become those after `t + 1` readings of the block.
+/// One reading further: the totals of the bank become those after `t + 1` readings of the block. The new totals are
+/// made in memory that nothing else reaches.
 pub(crate) fn step<M: Measure>(
     m: &M,
     block: Block,
     t: usize,
-    readings: &[M::Reading],
+    readings: &[M::Reading; FRAME_PLACES],
     bank: &mut [M::Total; STATES],
 ) -> u16
-    requires { (t < length_of block) × (length readings.now ≡ 480) }
+    requires { t < length_of block }
     ensures { Stepped M.means m.now t (stands block t) readings.now bank.old bank.new result }
 {
-    step_at(m, t, block.place(t), readings, bank)
+    let both = all_reached(t);
+    let place = block.place(t);
+    let mut next = [m.start(); STATES];
+    let decisions = advance(m, both, place, &readings[place], bank, &mut next);
+    *bank = next;
+    if_both(both, decisions, 0)
 }
