@@ -11,10 +11,11 @@ use Rattle.measure.specs.Muting.{IsMutedMarks}
 use Rattle.survival.proofs.Flips.{marks_decisive}
 use Rattle.survival.proofs.Recovering.{all_heard}
 use Rattle.trellis.specs.declared.search.Found.{Found}
-use Rattle.trellis.specs.Answers.{size_fault, word_inputs, Answers, Searched}
+use Rattle.trellis.specs.Sizes.{Sizes}
+use Rattle.trellis.specs.Answers.{work_fault, word_inputs, Answers, Searched}
 use Rattle.trellis.specs.Words.{heard, free_inputs, Unbeaten}
 use Rattle.receive.specs.Words.{fich_of_word}
-use Rattle.receive.specs.Reading.{or_else, inputs_of, frame_fault, best_word, HeardFich, FichSurvives}
+use Rattle.receive.specs.Reading.{or_else, unless_refused, inputs_of, frame_fault, best_word, fich_answer, HeardFich, FichSurvives}
 use Rattle.receive.proofs.Returning.{fich-word, fich_again}
 
 module _ {S R T : Type 0} (μ : Meaning S R T) (m : S) (readings : List R) where
@@ -59,14 +60,18 @@ module _ {S R T : Type 0} (μ : Meaning S R T) (m : S) (readings : List R) where
     decisive = λ f lawful none best. let z : ◌≡◌ {A = ℕ} 0 1 = cc in absurd (omega arith);
   }
 
+pub refused_value : {S R T : Type 0} (μ : Meaning S R T) (m : S) (readings : List R) (work : Sizes) (e : Fault) (r : Result FichFields Fault)
+    → frame_fault μ m readings work ≡ Some e → r ≡ Err e → r ≡ fich_answer μ m readings work
+refused_value μ m readings work e r is so = so ∙ sym (ap (λ o. unless_refused o (fich_of_word (best_word μ m Fich readings))) is)
+
 -- no refusal at all is no refusal of the first kind
 pub first_none : (first second : Option Fault) → or_else first second ≡ None → first ≡ None
 first_none None second e = refl
 first_none (Some fault) second e = let z : ◌≡◌ {A = ℕ} 0 1 = cc in absurd (omega arith)
 
-pub fich_survives : {S : Type 0} (μ : Meaning S ℕ ℕ) (muted : S → ℕ → Bool) (tied : IsMutedMarks μ muted) (m : S) (readings : List ℕ) (totals numbers : ℕ) (r : Result FichFields Fault)
-    → HeardFich μ m readings (frame_fault μ m readings totals numbers) r → FichSurvives (muted m) readings (frame_fault μ m readings totals numbers) r
-fich_survives μ muted tied m readings totals numbers r law f lawful none few =
+pub fich_survives : {S : Type 0} (μ : Meaning S ℕ ℕ) (muted : S → ℕ → Bool) (tied : IsMutedMarks μ muted) (m : S) (readings : List ℕ) (work : Sizes) (r : Result FichFields Fault)
+    → HeardFich μ m readings (frame_fault μ m readings work) r → FichSurvives (muted m) readings (frame_fault μ m readings work) r
+fich_survives μ muted tied m readings work r law f lawful none few =
     law.decisive f lawful none
     (marks_decisive μ muted tied m (free_inputs Fich) (heard Fich readings) (fich_inputs f)
-    (all_heard Fich readings totals numbers (first_none (size_fault (length readings) totals numbers) _ none)) (fich-word f) few)
+    (all_heard Fich readings work.totals work.numbers (first_none (work_fault readings work) _ none)) (fich-word f) few)

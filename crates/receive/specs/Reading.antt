@@ -1,5 +1,5 @@
 -- What a frame of readings says of its FICH, for every measure: the FICH of the word that the search answers, or the first refusal.
-use Rattle.std.specs.Prelude.{◌≡◌, ℕ, suc, ◌+◌, ◌*◌, ◌≤◌, Bool, cond, List, [], ◌∷◌, reverse, length, take, Some, None, Ok, Err, Option, Result}
+use Rattle.std.specs.Prelude.{◌≡◌, ℕ, suc, ◌+◌, ◌*◌, ◌≤◌, Bool, cond, List, [], ◌∷◌, reverse, take, Some, None, Ok, Err, Option, Result}
 use Rattle.codes.specs.Convolution.{coded}
 use Rattle.fault.specs.declared.Fault.{Fault}
 use Rattle.fault.specs.declared.Fault.TheVariants.{Improper}
@@ -10,7 +10,8 @@ use Rattle.layout.specs.declared.Block.{Block}
 use Rattle.layout.specs.declared.Block.TheVariants.{Fich}
 use Rattle.measure.specs.Meaning.{Meaning}
 use Rattle.survival.specs.Damage.{flips, unreadable}
-use Rattle.trellis.specs.Answers.{size_fault}
+use Rattle.trellis.specs.Sizes.{Sizes}
+use Rattle.trellis.specs.Answers.{work_fault}
 use Rattle.trellis.specs.Search.{PathTo, answer}
 use Rattle.trellis.specs.Words.{heard, free_inputs, Unbeaten, Decisive}
 use Rattle.receive.specs.Words.{fich_of_word}
@@ -36,16 +37,15 @@ inputs_of (Some p) = reverse p.inputs
 
 module _ {S R T : Type 0} (μ : Meaning S R T) (m : S) where
   -- a wrong size, and then a reading that is not proper
-  abbrev pub frame_fault : List R → ℕ → ℕ → Option Fault
-  frame_fault readings totals numbers =
-      or_else (size_fault (length readings) totals numbers) (first_improper (μ.proper m) 0 readings)
+  abbrev pub frame_fault : List R → Sizes → Option Fault
+  frame_fault readings work = or_else (work_fault readings work) (first_improper (μ.proper m) 0 readings)
 
   -- the free inputs of the best word of a block
   abbrev pub best_word : Block → List R → List ℕ
   best_word block readings = take (free_inputs block) (inputs_of (answer μ m block readings))
 
-  abbrev pub fich_answer : List R → ℕ → ℕ → Result FichFields Fault
-  fich_answer readings totals numbers = unless_refused (frame_fault readings totals numbers) (fich_of_word (best_word Fich readings))
+  abbrev pub fich_answer : List R → Sizes → Result FichFields Fault
+  fich_answer readings work = unless_refused (frame_fault readings work) (fich_of_word (best_word Fich readings))
 
   -- the FICH is that of a word which no other beats; and where the word of a FICH that may be sent beats all others, that FICH comes
   pub record HeardFich (readings : List R) (fault : Option Fault) (r : Result FichFields Fault) : Type 0 where

@@ -1,6 +1,6 @@
 //! From the word of a FICH block to the FICH.
-ghost use Rattle.std.specs.Prelude.{◌≡◌, ◌^◌, ◌<◌, slice_index};
-ghost use Rattle.bits.specs.Bits.{numbers_of};
+ghost use Rattle.std.specs.Prelude.{◌≡◌, ◌^◌, ◌<◌, ◌++◌, slice_index};
+ghost use Rattle.bits.specs.Bits.{bits_of, byte_bits, numbers_of};
 ghost use Rattle.golay.specs.Nearest.{nearest};
 ghost use Rattle.layout.specs.declared.Block.TheVariants.{Fich as FichBlock};
 ghost use Rattle.trellis.specs.Answers.{word_inputs};
@@ -18,9 +18,7 @@ fn received(word: &[u8; WORD_BYTES], k: usize) -> u32
     ensures value { result ≡ slice_index (numbers_of 24 4 (word_inputs FichBlock word.now)) k }
     ensures within { result < 2 ^ 24 }
 {
-    let high = u32::from(word[3 * k]);
-    let middle = u32::from(word[3 * k + 1]);
-    high * 65536 + middle * 256 + u32::from(word[3 * k + 2])
+    u32::from_be_bytes([0, word[3 * k], word[3 * k + 1], word[3 * k + 2]])
 }
 
 /// The twelve data bits of Golay word `k`.
@@ -28,10 +26,9 @@ fn data_of(word: &[u8; WORD_BYTES], k: u8) -> Result<u16, Fault>
     requires { k < 4 }
     ensures { result ≡ data_read k (nearest (slice_index (numbers_of 24 4 (word_inputs FichBlock word.now)) k)) }
 {
-    match nearest_word(received(word, usize::from(k))) {
-        Some((data, _)) => Ok(data),
-        None => Err(Fault::NoCodeword(k)),
-    }
+    nearest_word(received(word, usize::from(k)))
+        .map(|(data, _)| data)
+        .ok_or(Fault::NoCodeword(k))
 }
 
 /// The data bits of the four Golay words.
@@ -46,19 +43,22 @@ fn golay_data(word: &[u8; WORD_BYTES]) -> Result<[u16; 4], Fault>
     ])
 }
 
+/// The twelve lowest bits of two numbers, as three bytes.
+fn three_bytes(a: u16, b: u16) -> [u8; 3]
+    ensures { byte_bits result ≡ bits_of 12 a ++ bits_of 12 b }
+{
+    let [_, high, middle, low] = (u32::from(a % 4096) * 4096 + u32::from(b % 4096)).to_be_bytes();
+    [high, middle, low]
+}
+
 /// The twelve lowest bits of four numbers, as six bytes.
 fn six_bytes(data: [u16; 4]) -> [u8; 6]
     ensures { result ≡ six_bytes «data» }
 {
     let [a, b, c, d] = data;
-    [
-        (a / 16 % 256) as u8,
-        (a % 16 * 16 + b / 256 % 16) as u8,
-        (b % 256) as u8,
-        (c / 16 % 256) as u8,
-        (c % 16 * 16 + d / 256 % 16) as u8,
-        (d % 256) as u8,
-    ]
+    let [p, q, r] = three_bytes(a, b);
+    let [s, t, u] = three_bytes(c, d);
+    [p, q, r, s, t, u]
 }
 
 /// The FICH of its four bytes and the two of its checksum.
@@ -67,7 +67,7 @@ fn checked_fich(six: [u8; 6]) -> Result<Fich, Fault>
 {
     let [a, b, c, d, e, f] = six;
     let bytes = [a, b, c, d];
-    if crc16(&bytes) != u16::from(e) * 256 + u16::from(f) {
+    if crc16(&bytes) != u16::from_be_bytes([e, f]) {
         return Err(Fault::WrongChecksum);
     }
     Fich::from_bytes(&bytes)
