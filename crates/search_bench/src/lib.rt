@@ -8,9 +8,9 @@ ghost use Rattle.search_bench.specs.Calls.{searched_block, laid, Searches, Calle
 
 use fault::Fault;
 use layout::Block;
+use measure::Measure;
 use measure::levels::Levels;
 use measure::marks::Marks;
-use measure::Measure;
 use mute::Mute;
 use trellis::search::{WORD_BYTES, search};
 use trellis::work::{NUMBERS, TOTALS, Work};
@@ -79,7 +79,10 @@ pub extern "C" fn bench_muted(
     ensures { MutedCall (mute_of (length stretches.now / 2) stretches.now) long readings.now word.old word.new result }
 {
     match muted(stretches) {
-        Ok(mute) => searched(&mute, long, readings, &mut [0; TOTALS], word).map_or(REFUSED, u64::from),
+        Ok(mute) => searched(&mute, long, readings, &mut [0; TOTALS], word).map_or(
+            REFUSED,
+            u64::from,
+        ),
         Err(_) => REFUSED,
     }
 }

@@ -12,26 +12,20 @@ use measure::levels::Levels;
 use measure::marks::Marks;
 use mute::Mute;
 use std::alloc::Global;
+use std::fmt::Display;
 use std::io::{BufRead, BufReader};
-use trellis::search::{Found, search};
+use trellis::search::search;
+use trellis::work::{NUMBERS, TOTALS, Work};
 
 fn block_of(name: &str) -> anyhow::Result<Block> {
-    if name == "fich" {
-        return Ok(Block::Fich);
+    match name {
+        "fich" => Ok(Block::Fich),
+        "first" => Ok(Block::First),
+        "second" => Ok(Block::Second),
+        "short" => Ok(Block::Short),
+        "solid" => Ok(Block::Solid),
+        _ => Err(anyhow!("no such block")),
     }
-    if name == "first" {
-        return Ok(Block::First);
-    }
-    if name == "second" {
-        return Ok(Block::Second);
-    }
-    if name == "short" {
-        return Ok(Block::Short);
-    }
-    if name == "solid" {
-        return Ok(Block::Solid);
-    }
-    Err(anyhow!("no such block"))
 }
 
 fn mark_of(digit: u8) -> anyhow::Result<u8> {
@@ -58,31 +52,22 @@ fn levels_of(heap: Global, text: &str) -> anyhow::Result<Vec<i16>> {
     Ok(levels)
 }
 
-fn found_by<M: Measure>(
+/// The word that a search finds, and its total, in text.
+fn found<M: Measure<Total = T>, T: Copy + Display>(
     heap: Global,
     m: &M,
     block: Block,
     readings: &[M::Reading],
-    mut totals: Vec<M::Total>,
-) -> anyhow::Result<Found<M::Total>> {
-    let mut numbers = vec![in heap; 0u16; 180]?;
-    match search(
-        m,
-        block,
-        readings,
-        totals.as_mut_slice(),
-        numbers.as_mut_slice(),
-    ) {
-        Ok(found) => Ok(found),
-        Err(_) => Err(anyhow!("the search refused")),
-    }
-}
-
-fn shown(heap: Global, word: &[u8], total: u64) -> anyhow::Result<String> {
+    totals: &mut [T],
+) -> anyhow::Result<String> {
+    let mut numbers = [0; NUMBERS];
+    let mut work = Work::new(totals, &mut numbers);
+    let found = search(m, block, readings, &mut work).map_err(|_| anyhow!("the search refused"))?;
     let mut text = String::new(heap);
-    for byte in word {
+    for byte in &found.word {
         write!(text, "{byte:02x}")?;
     }
+    let total = found.total;
     write!(text, " {total}")?;
     Ok(text)
 }
@@ -96,39 +81,12 @@ fn by_marks(
 ) -> anyhow::Result<String> {
     let marks = marks_of(heap, text)?;
     if length == 0 {
-        let found = found_by(
-            heap,
-            &Marks,
-            block,
-            marks.as_slice(),
-            vec![in heap; 0u16; 32]?,
-        )?;
-        return shown(heap, &found.word, u64::from(found.total));
+        return found(heap, &Marks, block, &marks, &mut [0; TOTALS]);
     }
     let mut mute = Mute::new(Marks);
-    if mute.add(first, length).is_err() {
-        return Err(anyhow!("no such stretch"));
-    }
-    let found = found_by(
-        heap,
-        &mute,
-        block,
-        marks.as_slice(),
-        vec![in heap; 0u16; 32]?,
-    )?;
-    shown(heap, &found.word, u64::from(found.total))
-}
-
-fn by_levels(heap: Global, block: Block, text: &str) -> anyhow::Result<String> {
-    let levels = levels_of(heap, text)?;
-    let found = found_by(
-        heap,
-        &Levels,
-        block,
-        levels.as_slice(),
-        vec![in heap; 0u64; 32]?,
-    )?;
-    shown(heap, &found.word, found.total)
+    mute.add(first, length)
+        .map_err(|_| anyhow!("no such stretch"))?;
+    found(heap, &mute, block, &marks, &mut [0; TOTALS])
 }
 
 fn answer(heap: Global, line: &str) -> anyhow::Result<String> {
@@ -138,10 +96,16 @@ fn answer(heap: Global, line: &str) -> anyhow::Result<String> {
     let first = words.next().unwrap_or("").parse::<usize>()?;
     let length = words.next().unwrap_or("").parse::<usize>()?;
     let readings = words.next().unwrap_or("");
-    if kind == "levels" {
-        return by_levels(heap, block, readings);
+    match kind {
+        "levels" => found(
+            heap,
+            &Levels,
+            block,
+            &levels_of(heap, readings)?,
+            &mut [0; TOTALS],
+        ),
+        _ => by_marks(heap, block, first, length, readings),
     }
-    by_marks(heap, block, first, length, readings)
 }
 
 fn main(rt: HostRuntime) -> anyhow::Result<()> {
