@@ -16,7 +16,7 @@ use Rattle.fields.specs.declared.fich.Fich.{Fich}
 use Rattle.fields.specs.Fields.{kind_value, call_value, routing_value, type_value, flag_value, fich_bytes}
 use Rattle.fields.specs.Numbers.{counting_number, squelch_number, fich_numbers}
 use Rattle.fields.specs.Settings.{call_of, routing_of}
-use Rattle.fields.specs.Received.{fi, cs, cm, bn, bt, fn, ft, mr, kind_of, type_of, fields_fault, fields_of, fich_read, Sendable, Inverse}
+use Rattle.fields.specs.Received.{fi, cs, cm, bn, bt, fn, ft, mr, kind_of, kind_read, call_read, routing_read, type_of, fields_fault, fields_of, fich_read, Sendable, Inverse}
 use Rattle.fields.proofs.Parts.{kind_below, call_below, routing_below, type_below, flag_below, numbers_bytes}
 
 -- a test that refuses nothing, by what it would refuse
@@ -110,6 +110,27 @@ type_again VoiceFr = refl
 flag_again : (b : Bool) → eqb (flag_value b) 1 ≡ b
 flag_again true = refl
 flag_again false = refl
+
+-- ---- a field that its number says
+
+kind_said : (n : ℕ) (k : FrameKind) → kind_read n ≡ Ok k → (n ≡ 3 → ⊥) × (k ≡ kind_of n)
+kind_said n k e = (λ h. grind (arith, nat_tests), grind (arith, nat_tests))
+
+call_said : (n : ℕ) (m : CallMode) → call_read n ≡ Ok m → (n ≡ 2 → ⊥) × (m ≡ call_of n)
+call_said n m e = (λ h. grind (arith, nat_tests), grind (arith, nat_tests))
+
+routing_said : (n : ℕ) (r : Routing) → routing_read n ≡ Ok r → (n ≤ 2) × (r ≡ routing_of n)
+routing_said n r e = (grind (arith, nat_tests), grind (arith, nat_tests))
+
+-- bytes whose fields say a kind, a mode and a routing, and keep the rules
+pub all_said : (bytes : List ℕ) (k : FrameKind) (m : CallMode) (r : Routing) → kind_read (fi bytes) ≡ Ok k → call_read (cm bytes) ≡ Ok m → routing_read (mr bytes) ≡ Ok r
+    → cs bytes ≡ 2 → bn bytes ≤ bt bytes → fn bytes ≤ ft bytes
+    → (fields_fault bytes ≡ None) × (k ≡ kind_of (fi bytes)) × (m ≡ call_of (cm bytes)) × (r ≡ routing_of (mr bytes))
+all_said bytes k m r ek em er signs block frame =
+    let kind = kind_said (fi bytes) k ek in
+    let call = call_said (cm bytes) m em in
+    let route = routing_said (mr bytes) r er in
+    (no_fault bytes kind.0 signs call.0 block frame route.0, kind.1, call.1, route.1)
 
 -- ---- what is read is written as the same bytes
 

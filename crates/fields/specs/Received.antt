@@ -1,11 +1,14 @@
 -- The fields of a FICH that was received as four bytes: each by its place in them, and the rules that they keep.
-use Rattle.std.specs.Prelude.{◌≡◌, ℕ, ◌/◌, ◌%◌, ◌<◌, ◌≤◌, cond, List, Some, None, Ok, Option, Result, ◌==◌, nat_lt, slice_index}
+use Rattle.std.specs.Prelude.{◌≡◌, ℕ, ◌/◌, ◌%◌, ◌<◌, ◌≤◌, cond, List, Some, None, Ok, Err, not, ◌&&◌, Option, Result, ◌==◌, nat_lt, slice_index}
 use Rattle.fault.specs.declared.Fault.{Fault}
 use Rattle.fault.specs.declared.Fault.TheVariants.{FieldNotAllowed}
+use Rattle.fault.specs.declared.Field.{Field}
 use Rattle.fault.specs.declared.Field.TheVariants.{FrameKind as KindRule, Callsigns as CallsignsRule, CallMode as CallRule, BlockNumber as BlockRule, FrameNumber as FrameRule, Routing as RoutingRule}
 use Rattle.fault.specs.Faults.{refused_or}
 use Rattle.fields.specs.declared.fich.FrameKind.{FrameKind}
 use Rattle.fields.specs.declared.fich.FrameKind.TheVariants.{Header, Communication, Terminator}
+use Rattle.fields.specs.declared.fich.CallMode.{CallMode}
+use Rattle.fields.specs.declared.fich.Routing.{Routing}
 use Rattle.fields.specs.declared.fich.DataType.{DataType}
 use Rattle.fields.specs.declared.fich.DataType.TheVariants.{VdType1, DataFr, VdType2, VoiceFr}
 use Rattle.fields.specs.declared.fich.Fich.{Fich}
@@ -38,6 +41,16 @@ mr bytes = slice_index bytes 2 / 8 % 8
 
 abbrev pub kind_of : ℕ → FrameKind
 kind_of n = cond (n == 0) Header (cond (n == 1) Communication Terminator)
+
+-- a field that not every number says, or the rule that the number breaks
+abbrev pub kind_read : ℕ → Result FrameKind Field
+kind_read n = cond (nat_lt n 3) (Ok (kind_of n)) (Err KindRule)
+
+abbrev pub call_read : ℕ → Result CallMode Field
+call_read n = cond (nat_lt n 4 && not (n == 2)) (Ok (call_of n)) (Err CallRule)
+
+abbrev pub routing_read : ℕ → Result Routing Field
+routing_read n = cond (nat_lt n 3) (Ok (routing_of n)) (Err RoutingRule)
 
 abbrev pub type_of : ℕ → DataType
 type_of n = cond (n == 0) VdType1 (cond (n == 1) DataFr (cond (n == 2) VdType2 VoiceFr))

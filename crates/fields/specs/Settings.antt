@@ -22,6 +22,10 @@ call_of n = cond (n == 0) Group (cond (n == 1) RadioId Individual)
 abbrev pub routing_of : ℕ → Routing
 routing_of n = cond (n == 0) Direct (cond (n == 1) DownlinkFree DownlinkBusy)
 
+-- the flag that a setting says
+abbrev pub flag_read : ℕ → Result Bool Fault
+flag_read n = cond (nat_lt n 2) (Ok (n == 1)) (Err SettingNotAllowed)
+
 abbrev pub header_fich : Settings → DataType → Fich
 header_fich s mode = record {
   kind = Header;

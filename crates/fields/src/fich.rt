@@ -1,45 +1,48 @@
 //! The frame information channel, field by field.
 ghost use Rattle.std.specs.Prelude.{◌≡◌};
 ghost use Rattle.bits.specs.Bits.{byte_bits};
-ghost use Rattle.fields.specs.Fields.{kind_value, call_value, routing_value, type_value, flag_value, fich_bits, fich_bytes};
+ghost use Rattle.fields.specs.Fields.{fich_bits, fich_bytes};
 ghost use Rattle.fields.specs.Numbers.{addressing_number, counting_number, signalling_number, squelch_number};
+ghost use Rattle.fields.specs.Received.{kind_read, call_read, routing_read};
+
+use fault::Field;
 
 /// What a frame is for (FI).
 #[derive(Clone, Copy, PartialEq, Eq)]
 pub enum FrameKind {
-    Header,
-    Communication,
-    Terminator,
+    Header = 0,
+    Communication = 1,
+    Terminator = 2,
 }
 
 /// Whom a call addresses (CM).
 #[derive(Clone, Copy, PartialEq, Eq)]
 pub enum CallMode {
     /// Anyone who hears it.
-    Group,
+    Group = 0,
     /// The station with a Radio ID.
-    RadioId,
+    RadioId = 1,
     /// The station with a callsign.
-    Individual,
+    Individual = 3,
 }
 
 /// The way that a message takes (MR).
 #[derive(Clone, Copy, PartialEq, Eq)]
 pub enum Routing {
-    Direct,
+    Direct = 0,
     /// From a repeater whose uplink is not busy.
-    DownlinkFree,
+    DownlinkFree = 1,
     /// From a repeater whose uplink is busy.
-    DownlinkBusy,
+    DownlinkBusy = 2,
 }
 
 /// How a transmission shares its frames between voice and data (DT).
 #[derive(Clone, Copy, PartialEq, Eq)]
 pub enum DataType {
-    VdType1,
-    DataFr,
-    VdType2,
-    VoiceFr,
+    VdType1 = 0,
+    DataFr = 1,
+    VdType2 = 2,
+    VoiceFr = 3,
 }
 
 /// The fields of a FICH. Of a number only the bits that its field has are sent.
@@ -67,57 +70,50 @@ pub struct Fich {
     pub squelch_code: u8,
 }
 
-fn flag(set: bool) -> u8
-    ensures { result ≡ flag_value set }
-{
-    if set { 1 } else { 0 }
-}
+/// The kind that FI says; an error names the rule that a number of no kind breaks.
+impl TryFrom<u8> for FrameKind {
+    type Error = Field;
 
-impl FrameKind {
-    fn value(self) -> u8
-        ensures { result ≡ kind_value self }
-    {
-        match self {
-            FrameKind::Header => 0,
-            FrameKind::Communication => 1,
-            FrameKind::Terminator => 2,
+    ghost try_from_gives = { λ fi r. r ≡ kind_read fi };
+
+    fn try_from(fi: u8) -> Result<Self, Field> {
+        match fi {
+            0 => Ok(FrameKind::Header),
+            1 => Ok(FrameKind::Communication),
+            2 => Ok(FrameKind::Terminator),
+            _ => Err(Field::FrameKind),
         }
     }
 }
 
-impl CallMode {
-    fn value(self) -> u8
-        ensures { result ≡ call_value self }
-    {
-        match self {
-            CallMode::Group => 0,
-            CallMode::RadioId => 1,
-            CallMode::Individual => 3,
+/// The mode that CM says; an error names the rule that a number of no mode breaks.
+impl TryFrom<u8> for CallMode {
+    type Error = Field;
+
+    ghost try_from_gives = { λ cm r. r ≡ call_read cm };
+
+    fn try_from(cm: u8) -> Result<Self, Field> {
+        match cm {
+            0 => Ok(CallMode::Group),
+            1 => Ok(CallMode::RadioId),
+            3 => Ok(CallMode::Individual),
+            _ => Err(Field::CallMode),
         }
     }
 }
 
-impl Routing {
-    fn value(self) -> u8
-        ensures { result ≡ routing_value self }
-    {
-        match self {
-            Routing::Direct => 0,
-            Routing::DownlinkFree => 1,
-            Routing::DownlinkBusy => 2,
-        }
-    }
-}
+/// The routing that MR says; an error names the rule that a number of no routing breaks.
+impl TryFrom<u8> for Routing {
+    type Error = Field;
 
-impl DataType {
-    fn value(self) -> u8
-        ensures { result ≡ type_value self }
-    {
-        match self {
-            DataType::VdType1 => 0,
-            DataType::DataFr => 1,
-            DataType::VdType2 => 2,
-            DataType::VoiceFr => 3,
+    ghost try_from_gives = { λ mr r. r ≡ routing_read mr };
+
+    fn try_from(mr: u8) -> Result<Self, Field> {
+        match mr {
+            0 => Ok(Routing::Direct),
+            1 => Ok(Routing::DownlinkFree),
+            2 => Ok(Routing::DownlinkBusy),
+            _ => Err(Field::Routing),
         }
     }
 }
@@ -126,7 +122,7 @@ impl Fich {
     fn addressing(&self) -> u8
         ensures { result ≡ addressing_number self.now }
     {
-        self.kind.value() * 64 + 32 + self.call_mode.value() * 4 + self.block_number % 4
+        self.kind as u8 * 64 + 32 + self.call_mode as u8 * 4 + self.block_number % 4
     }
 
     fn counting(&self) -> u8
@@ -138,38 +134,29 @@ impl Fich {
     fn signalling(&self) -> u8
         ensures { result ≡ signalling_number self.now }
     {
-        let flags = flag(self.reserved) * 128 + flag(self.narrow) * 64 + flag(self.voip) * 4;
-        flags + self.routing.value() * 8 + self.data_type.value()
+        let flags = u8::from(self.reserved) * 128
+            + u8::from(self.narrow) * 64
+            + u8::from(self.voip) * 4;
+        flags + self.routing as u8 * 8 + self.data_type as u8
     }
 
     fn squelch(&self) -> u8
         ensures { result ≡ squelch_number self.now }
     {
-        flag(self.squelch_off) * 128 + self.squelch_code % 128
-    }
-
-    /// Four bytes that hold the fields.
-    fn joined(&self, addressing: u8, counting: u8, signalling: u8, squelch: u8) -> [u8; 4]
-        requires addressing { addressing ≡ addressing_number self.now }
-        requires counting { counting ≡ counting_number self.now }
-        requires signalling { signalling ≡ signalling_number self.now }
-        requires squelch { squelch ≡ squelch_number self.now }
-        ensures value { result ≡ fich_bytes self.now }
-        ensures bits { byte_bits result ≡ fich_bits self.now }
-    {
-        [addressing, counting, signalling, squelch]
+        u8::from(self.squelch_off) * 128 + self.squelch_code % 128
     }
 
     /// The 32 bits, highest first.
+    #[tactic(auto, using(crate::proofs::Parts::numbers_bits, crate::proofs::Parts::numbers_bytes))]
     pub fn bytes(&self) -> [u8; 4]
         ensures value { result ≡ fich_bytes self.now }
         ensures bits { byte_bits result ≡ fich_bits self.now }
     {
-        self.joined(
+        [
             self.addressing(),
             self.counting(),
             self.signalling(),
             self.squelch(),
-        )
+        ]
     }
 }

@@ -1,11 +1,12 @@
 //! What a sender chooses about a transmission.
 ghost use Rattle.std.specs.Prelude.{◌≡◌};
-ghost use Rattle.fields.specs.Settings.{allowed, call_of, routing_of, checked_header};
+ghost use Rattle.fields.specs.Settings.{flag_read, checked_header};
 
 use crate::fich::{CallMode, DataType, Fich, FrameKind, Routing};
 use fault::Fault;
 
 /// The chosen fields of a FICH, as numbers that may yet be out of range.
+// Numbers and no enums: by rule a setting too large for its field is refused, and not cut to it.
 #[derive(Clone, Copy, PartialEq, Eq)]
 pub struct Settings {
     pub cm: u8,
@@ -16,59 +17,38 @@ pub struct Settings {
     pub sc: u8,
 }
 
-pub(crate) fn call_mode(cm: u8) -> CallMode
-    ensures { result ≡ call_of cm }
+/// The flag that a setting of one bit says.
+fn flag(setting: u8) -> Result<bool, Fault>
+    ensures { result ≡ flag_read setting }
 {
-    match cm {
-        0 => CallMode::Group,
-        1 => CallMode::RadioId,
-        _ => CallMode::Individual,
-    }
-}
-
-pub(crate) fn routing(mr: u8) -> Routing
-    ensures { result ≡ routing_of mr }
-{
-    match mr {
-        0 => Routing::Direct,
-        1 => Routing::DownlinkFree,
-        _ => Routing::DownlinkBusy,
+    match setting {
+        0 => Ok(false),
+        1 => Ok(true),
+        _ => Err(Fault::SettingNotAllowed),
     }
 }
 
 impl Settings {
-    fn is_allowed(&self) -> bool
-        ensures { result ≡ allowed self.now }
-    {
-        self.cm < 4
-            && self.cm != 2
-            && self.mr < 3
-            && self.dev < 2
-            && self.voip < 2
-            && self.sql < 2
-            && self.sc < 128
-    }
-
     /// The FICH of a header with these settings, or a refusal where one is not allowed.
     pub fn header(&self, mode: DataType) -> Result<Fich, Fault>
         ensures { result ≡ checked_header self.now mode }
     {
-        if !self.is_allowed() {
+        if self.sc >= 128 {
             return Err(Fault::SettingNotAllowed);
         }
         Ok(Fich {
             kind: FrameKind::Header,
-            call_mode: call_mode(self.cm),
+            call_mode: CallMode::try_from(self.cm).map_err(|_| Fault::SettingNotAllowed)?,
             block_number: 0,
             block_total: 0,
             frame_number: 0,
             frame_total: 0,
             reserved: false,
-            narrow: self.dev == 1,
-            routing: routing(self.mr),
-            voip: self.voip == 1,
+            narrow: flag(self.dev)?,
+            routing: Routing::try_from(self.mr).map_err(|_| Fault::SettingNotAllowed)?,
+            voip: flag(self.voip)?,
             data_type: mode,
-            squelch_off: self.sql == 1,
+            squelch_off: flag(self.sql)?,
             squelch_code: self.sc,
         })
     }

@@ -1,18 +1,20 @@
 -- The Golay words of a FICH, as bytes.
 use Rattle.std.proofs.Common.{◌≡◌, ℕ, zero, suc, ◌+◌, ◌*◌, ◌/◌, ◌%◌, ◌^◌, ◌<◌, List, [], ◌∷◌, ◌++◌, map, length, get_or, take, drop, sym, refl, ap, ◌∙◌, append_assoc, append-nil, suc-add, zero-add, arith, length-append, length-drop, take_all}
 use lib.Seq.{take-append-le, drop-append-le}
+use borrow.Rule.Slice.PartMut.{put_mid}
 use Rattle.std.specs.List.{range_with_len}
 use Rattle.std.proofs.lemmas.List.FromFn.{fill_by_all}
 use Rattle.std.proofs.lemmas.List.{nil_from_length}
 use Rattle.bits.specs.Bits.{Bits, bits_of, number_of, byte_bits}
 use Rattle.bits.specs.Division.{remainder}
-use Rattle.bits.proofs.Numbers.{length-bits_of, bits-bits_of, bits_of_cat, bits_number, number_below, byte_bits-append, bits-byte_bits}
+use Rattle.bits.proofs.Numbers.{length-bits_of, bits-bits_of, bits_of_cat, bits_of_mod, bits_number, byte_bits-append, bits-byte_bits}
 use Rattle.bits.proofs.Divides.{length-remainder}
 use Rattle.codes.specs.Crc.{crc, crc_generator, check_bits}
 use Rattle.codes.proofs.Checks.{length-all_inverted, bits-all_inverted}
 use Rattle.golay.specs.Golay.{golay, code_of}
 use Rattle.golay.proofs.Linear.{length-golay, bits-golay}
 use Rattle.frame.specs.Header.{golay_words}
+use Rattle.frame.proofs.Laying.{joined}
 
 golay_size : (d : ℕ) → length (golay (bits_of 12 d)) ≡ 24
 golay_size d = length-golay (bits_of 12 d) (bits-bits_of 12 d) ∙ ap (λ n. n + 12) (length-bits_of 12 d)
@@ -21,20 +23,14 @@ pub code-bits : (d : ℕ) → bits_of 24 (code_of d) ≡ golay (bits_of 12 d)
 unfolding code_of
 code-bits d = bits_number 24 (golay (bits_of 12 d)) (golay_size d) (bits-golay (bits_of 12 d) (bits-bits_of 12 d))
 
-pub code_below : (d : ℕ) → code_of d < 2 ^ 24
-unfolding code_of
-code_below d =
-    let h = number_below (golay (bits_of 12 d)) (bits-golay (bits_of 12 d) (bits-bits_of 12 d)) in
-    let e : 2 ^ length (golay (bits_of 12 d)) ≡ 2 ^ 24 = ap (λ n. 2 ^ n) (golay_size d) in
-    omega arith
-
 -- 24 bits as three bytes
-pub three_bytes : (w : ℕ) → byte_bits (w / 65536 ∷ w / 256 % 256 ∷ w % 256 ∷ []) ≡ bits_of 24 w
+pub three_bytes : (w : ℕ) → byte_bits (w / 65536 % 256 ∷ w / 256 % 256 ∷ w % 256 ∷ []) ≡ bits_of 24 w
 unfolding byte_bits
 three_bytes w =
     let low : w / 256 % 256 * 2 ^ 8 + w % 256 < 2 ^ 16 = omega arith in
     let whole : w / 65536 * 2 ^ 16 + (w / 256 % 256 * 2 ^ 8 + w % 256) ≡ w = omega arith in
-    ap (λ l. bits_of 8 (w / 65536) ++ (bits_of 8 (w / 256 % 256) ++ l)) (append-nil (bits_of 8 (w % 256)))
+    ap (λ l. l ++ (bits_of 8 (w / 256 % 256) ++ (bits_of 8 (w % 256) ++ []))) (bits_of_mod 8 (w / 65536))
+    ∙ ap (λ l. bits_of 8 (w / 65536) ++ (bits_of 8 (w / 256 % 256) ++ l)) (append-nil (bits_of 8 (w % 256)))
     ∙ ap (λ l. bits_of 8 (w / 65536) ++ l) (sym (bits_of_cat 8 8 (w / 256 % 256) (w % 256) (omega arith)))
     ∙ sym (bits_of_cat 8 16 (w / 65536) (w / 256 % 256 * 2 ^ 8 + w % 256) low)
     ∙ ap (bits_of 24) whole
@@ -95,6 +91,15 @@ two_listed n m xs ys bs cs ex ey eb ec =
     ∙ ap (λ l. byte_bits l ++ byte_bits (listed m ys)) (listed_is n xs ex)
     ∙ ap (λ l. byte_bits xs ++ byte_bits l) (listed_is m ys ey)
     ∙ ap (λ l. l ++ byte_bits ys) eb
+    ∙ ap (λ l. bs ++ l) ec
+
+-- bits of n bytes that are copied to the front of a list, and of m that are copied to the rest of it
+pub joined_bits : (n m : ℕ) (first rest second bs cs : List ℕ) → length first ≡ n → length rest ≡ m → byte_bits first ≡ bs → byte_bits second ≡ cs
+    → byte_bits (put_mid n m (first ++ rest) second) ≡ bs ++ cs
+joined_bits n m first rest second bs cs front back eb ec =
+    ap byte_bits (joined n m first rest second front back)
+    ∙ byte_bits-append first second
+    ∙ ap (λ l. l ++ byte_bits second) eb
     ∙ ap (λ l. bs ++ l) ec
 
 -- ---- the FICH and its checksum

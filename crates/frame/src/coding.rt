@@ -1,16 +1,21 @@
 //! From data to inputs, and from inputs to the interleaved dibits of a block.
-ghost use Rattle.std.specs.Prelude.{◌≡◌, ◌+◌, ◌*◌, ◌<◌, length, take};
+ghost use Rattle.std.specs.Prelude.{◌≡◌, ◌+◌, ◌*◌, ◌<◌, length};
 ghost use Rattle.bits.specs.Bits.{byte_bits};
 ghost use Rattle.bits.specs.Dibits.{value_of, byte_by};
 ghost use Rattle.codes.specs.Convolution.{coded};
 ghost use Rattle.codes.specs.Interleaving.{rows_of};
-ghost use Rattle.codes.specs.Whitening.{whitened};
 ghost use Rattle.frame.specs.Coding.{dibit_at, block_bytes, unit_bytes};
 
 use codes::convolution::coded_dibit;
 use codes::crc::crc16;
 use codes::interleave::Interleave;
 use codes::whitening::whiten;
+
+/// How many bytes of a message a unit carries.
+pub(crate) const UNIT_DATA: usize = 20;
+
+/// How many bytes a unit has: its data and a checksum.
+const UNIT_BYTES: usize = 22;
 
 /// The dibit at place `j` of the block, as a number.
 fn interleaved_value(inputs: &[u8], interleave: Interleave, j: usize) -> u8
@@ -33,42 +38,24 @@ fn interleaved_byte(inputs: &[u8], interleave: Interleave, k: usize) -> u8
 }
 
 /// Writes the block whose free inputs are the bits of `inputs`.
+// A slice and no array: it is lent from the middle of a frame, and the interleave says how long it is.
 pub(crate) fn fill_block(inputs: &[u8], interleave: Interleave, block: &mut [u8])
     requires { length block.old ≡ 5 * rows_of interleave }
     ensures { block.new ≡ block_bytes (rows_of interleave) (byte_bits inputs.now) }
 {
-    for k in 0..block.len() {
-        block[k] = interleaved_byte(inputs, interleave, k);
+    for (k, byte) in block.iter_mut().enumerate() {
+        *byte = interleaved_byte(inputs, interleave, k);
     }
 }
 
-/// Copies data into the front of a unit, and whitens it there.
-fn whiten_into(bytes: &[u8], unit: &mut [u8])
-    requires { length unit.old ≡ length bytes.now + 2 }
-    ensures { take (length bytes.now) unit.new ≡ whitened bytes.now }
+/// The unit of some data: the data whitened, then the checksum of that.
+pub(crate) fn unit_of(bytes: &[u8; UNIT_DATA]) -> [u8; UNIT_BYTES]
+    ensures { result ≡ unit_bytes bytes.now }
 {
-    let n = bytes.len();
-    unit[0..n].copy_from_slice(bytes);
-    whiten(&mut unit[0..n]);
-}
-
-/// Writes the checksum of the whitened data in front of it.
-fn seal(bytes: &[u8], unit: &mut [u8])
-    requires sized { length unit.old ≡ length bytes.now + 2 }
-    requires white { take (length bytes.now) unit.old ≡ whitened bytes.now }
-    ensures { unit.new ≡ unit_bytes bytes.now }
-{
-    let n = bytes.len();
-    let crc = crc16(&unit[0..n]);
-    unit[n] = (crc / 256) as u8;
-    unit[n + 1] = (crc % 256) as u8;
-}
-
-/// Writes the unit of some data: the data whitened, then the checksum of that.
-pub(crate) fn fill_unit(bytes: &[u8], unit: &mut [u8])
-    requires { length unit.old ≡ length bytes.now + 2 }
-    ensures { unit.new ≡ unit_bytes bytes.now }
-{
-    whiten_into(bytes, unit);
-    seal(bytes, unit);
+    let mut white = *bytes;
+    whiten(&mut white);
+    let mut unit = [0; UNIT_BYTES];
+    unit[..UNIT_DATA].copy_from_slice(&white);
+    unit[UNIT_DATA..].copy_from_slice(&crc16(&white).to_be_bytes());
+    unit
 }

@@ -1,8 +1,9 @@
 -- How many bits are turned, counted from the syndrome: with one data bit more, and as the distance from a codeword.
-use Rattle.std.proofs.Common.{◌≡◌, ℕ, suc, ◌+◌, ◌-◌, ◌*◌, ◌%◌, ◌^◌, ◌<◌, ◌≤◌, ◌⊎◌, Some, None, Option, sym, refl, ap, ◌∙◌, inl, inr, eq-zero-or-pos, one-mul, pow-suc, arith}
+use Rattle.std.proofs.Common.{◌≡◌, ℕ, suc, ◌+◌, ◌-◌, ◌*◌, ◌/◌, ◌%◌, ◌^◌, ◌<◌, ◌≤◌, ◌⊎◌, Some, None, Option, sym, refl, ap, ◌∙◌, inl, inr, eq-zero-or-pos, one-mul, pow-suc, subst, arith}
 use lib.Bits.{bit_xor, xor_comm, xor_assoc, xor_zero_r, xor_block, xor_shifted, xor_lt}
 use lib.Count.{ones, ones_cat}
 use lib.Pow.{pow-lt}
+use Rattle.std.specs.Option.{option_map}
 use Rattle.std.proofs.lemmas.Bool.{cases_lt}
 use Rattle.golay.specs.Golay.{code_of, check_of, distance}
 use Rattle.golay.specs.Nearest.{Near, counted, turned_by, Explains}
@@ -30,6 +31,12 @@ turned_more syndrome j d h =
     omega (arith, ap ones sum, ones_cat j 1 d h, one_one, ap ones rest)
 
 -- ---- the search, a place at a time
+
+-- a bit above others is added to them
+pub top_added : (j d : ℕ) → d < 2 ^ j → bit_xor d (2 ^ j) ≡ d + 2 ^ j
+top_added j d h =
+    let sum : 1 * 2 ^ j + d ≡ d + 2 ^ j = omega arith in
+    xor_comm d (2 ^ j) ∙ ap (λ x. bit_xor x d) (sym (one-mul (2 ^ j))) ∙ xor_shifted 1 j d h ∙ sum
 
 -- the highest of some places of the data
 pub top_small : (places : ℕ) → 0 < places → places ≤ 12 → 2 ^ (places - 1) < 4096
@@ -91,7 +98,7 @@ distance-turned sent check d low p =
     ∙ ones_cat 12 (bit_xor d sent) (bit_xor own check) (xor_lt 12 own check small low)
     ∙ ap (λ x. ones (bit_xor d sent) + ones x) (sym left)
 
-pub near_some : (limit sent check d : ℕ) → limit ≤ 3 → sent < 4096 → check < 4096
+near_some : (limit sent check d : ℕ) → limit ≤ 3 → sent < 4096 → check < 4096
     → Explains (bit_xor (check_of sent) check) 12 limit (Some d)
     → Near limit (sent * 4096 + check) (counted (sent * 4096 + check) (Some (bit_xor sent d)))
 near_some limit sent check d few p q found =
@@ -103,6 +110,19 @@ near_some limit sent check d few p q found =
     omega (arith, distance-turned sent check mended q small, ap (turned_by (bit_xor (check_of sent) check)) back, found.1) in
     (small, refl, near, λ other r close. only_one limit word other mended few r small close near)
 
-pub near_none : (limit sent check : ℕ) → sent < 4096 → check < 4096 → Explains (bit_xor (check_of sent) check) 12 limit None → Near limit (sent * 4096 + check) None
+near_none : (limit sent check : ℕ) → sent < 4096 → check < 4096 → Explains (bit_xor (check_of sent) check) 12 limit None → Near limit (sent * 4096 + check) None
 near_none limit sent check p q none d r =
     omega (arith, distance-turned sent check d q r, none (bit_xor d sent) (xor_lt 12 d sent r p))
+
+-- the same of a word and its syndrome
+pub near_mended : (word syndrome : ℕ) (r : Option ℕ) → word < 2 ^ 24 → syndrome ≡ bit_xor (check_of (word / 4096)) (word % 4096)
+    → Explains syndrome 12 3 r → Near 3 word (counted word (option_map (bit_xor (word / 4096)) r))
+near_mended word syndrome r h e found =
+    let whole : word / 4096 * 4096 + word % 4096 ≡ word = omega arith in
+    let told = subst (λ s. Explains s 12 3 r) e found in
+    subst (λ w. Near 3 w (counted w (option_map (bit_xor (word / 4096)) r))) whole
+    (elim r as (λ x. Explains (bit_xor (check_of (word / 4096)) (word % 4096)) 12 3 x
+    → Near 3 (word / 4096 * 4096 + word % 4096) (counted (word / 4096 * 4096 + word % 4096) (option_map (bit_xor (word / 4096)) x))) [
+      | Some d ↦ near_some 3 (word / 4096) (word % 4096) d (omega arith) (omega arith) (omega arith)
+      | None ↦ near_none 3 (word / 4096) (word % 4096) (omega arith) (omega arith)
+    ] told)

@@ -1,5 +1,5 @@
 -- A line changes an order only as its key allows.
-use Rattle.std.proofs.Common.{◌≡◌, ℕ, ◌+◌, ◌≤◌, true, List, [], ◌∷◌, length, get_or, IfSome, Some, None, Option, refl, ap, ⊎_elim, arith}
+use Rattle.std.proofs.Common.{◌≡◌, ℕ, ◌+◌, ◌≤◌, true, List, [], ◌∷◌, length, get_or, Some, None, Option, refl, ap, ⊎_elim, arith}
 use Rattle.std.proofs.lemmas.Bool.{cases_lt, cases_Bool, le-leb, lt-leb}
 use Rattle.std.proofs.lemmas.Bool.Decides.{nat_tests}
 use Rattle.fields.specs.declared.fich.DataType.{DataType}
@@ -8,11 +8,13 @@ use Rattle.fields.specs.Settings.{allowed}
 use Rattle.order.specs.declared.Order.{Order}
 use Rattle.order.specs.declared.keys.Setting.{Setting}
 use Rattle.order.specs.declared.keys.Setting.TheVariants.{Cm, Dev, Mr, Voip, Sql, Sc}
+use Rattle.order.specs.declared.keys.TextField.{TextField}
+use Rattle.order.specs.declared.keys.TextField.TheVariants.{Dest, Src, Down, Up, Rem1, Rem2, Rem3, Rem4}
 use Rattle.order.specs.declared.keys.Field.{Field}
 use Rattle.order.specs.declared.keys.Field.TheVariants.{Text, Mode, Number}
 use Rattle.order.specs.Changes.{Changed}
 use Rattle.order.specs.Decimals.{decimal}
-use Rattle.order.specs.Keys.{field_of, mode_of, allows, Fits}
+use Rattle.order.specs.Keys.{field_of, mode_of, allows, text_at, text_width}
 use Rattle.order.specs.Lines.{key_of, value_of}
 use Rattle.order.specs.Orders.{written, written_mode, written_number, written_at, left, with_setting}
 use Rattle.order.proofs.Padding.{text_elsewhere, text_held}
@@ -28,46 +30,56 @@ kept-allowed s Sc n ok before = grind (arith, nat_tests)
 
 -- a field that is not a text leaves the message alone
 aside : (o new : Order) (field : Option Field) (value : List ℕ)
-    → ((at width : ℕ) → field ≡ Some (Text at width) → ⊥)
+    → ((text : TextField) → field ≡ Some (Text text) → ⊥)
     → new.message ≡ o.message
     → (allowed o.settings ≡ true → allowed new.settings ≡ true)
     → Changed o field value new
 aside o new field value no_text same settings = record {
   settings = settings;
   elsewhere = λ k out. ap (λ m. get_or m k 0) same;
-  held = λ at width e fits. absurd (no_text at width e);
+  held = λ text e fits. absurd (no_text text e);
 }
 
-written_text : (o : Order) (at width : ℕ) (value : List ℕ) → length o.message ≡ 320 → at + width ≤ 320 → Changed o (Some (Text at width)) value (left (written o (Text at width) value) o)
-written_text o at width value all within =
+text_within : (text : TextField) → text_at text + text_width text ≤ 320
+text_within Dest = omega arith
+text_within Src = omega arith
+text_within Down = omega arith
+text_within Up = omega arith
+text_within Rem1 = omega arith
+text_within Rem2 = omega arith
+text_within Rem3 = omega arith
+text_within Rem4 = omega arith
+
+written_text : (o : Order) (text : TextField) (value : List ℕ) → length o.message ≡ 320 → Changed o (Some (Text text)) value (left (written o (Text text) value) o)
+written_text o text value all =
+    let at = text_at text in
+    let width = text_width text in
+    let within = text_within text in
     ⊎_elim
     (λ long.
     rw (lt-leb (length value) width long)
     (record {
       settings = λ h. h;
       elsewhere = λ k out. refl;
-      held = λ a w e fits. let same : w ≡ width = cc in absurd (omega arith);
+      held = λ t e fits. let same : text_width t ≡ width = ap text_width (cc) in absurd (omega arith);
     }))
     (λ short.
     rw (le-leb (length value) width short)
     (record {
       settings = λ h. h;
       elsewhere = λ k out. text_elsewhere o.message value at width k (omega arith) short out;
-      held = λ a w e fits.
-          let from : a ≡ at = cc in
-          let wide : w ≡ width = cc in
-          rw (from, wide) (text_held o.message value at width (omega arith) short);
+      held = λ t e fits. let same : t ≡ text = cc in rw same (text_held o.message value at width (omega arith) short);
     }))
     (cases_lt width (length value))
 
-no_mode : (at width : ℕ) → Some Mode ≡ Some (Text at width) → ⊥
-no_mode at width e = let z : ◌≡◌ {A = ℕ} 0 1 = cc in omega arith
+no_mode : (text : TextField) → Some Mode ≡ Some (Text text) → ⊥
+no_mode text e = let z : ◌≡◌ {A = ℕ} 0 1 = cc in omega arith
 
-no_number : (setting : Setting) (at width : ℕ) → Some (Number setting) ≡ Some (Text at width) → ⊥
-no_number setting at width e = let z : ◌≡◌ {A = ℕ} 0 1 = cc in omega arith
+no_number : (setting : Setting) (text : TextField) → Some (Number setting) ≡ Some (Text text) → ⊥
+no_number setting text e = let z : ◌≡◌ {A = ℕ} 0 1 = cc in omega arith
 
-no_field : (at width : ℕ) → ◌≡◌ {A = Option Field} None (Some (Text at width)) → ⊥
-no_field at width e = let z : ◌≡◌ {A = ℕ} 0 1 = cc in omega arith
+no_field : (text : TextField) → ◌≡◌ {A = Option Field} None (Some (Text text)) → ⊥
+no_field text e = let z : ◌≡◌ {A = ℕ} 0 1 = cc in omega arith
 
 changed_mode : (o : Order) (value : List ℕ) (mode : Option DataType) → Changed o (Some Mode) value (left (written_mode o mode) o)
 changed_mode o value None = aside o o (Some Mode) value no_mode refl (λ h. h)
@@ -82,11 +94,11 @@ changed_number o value setting (Some n) =
     (cases_Bool (allows setting n))
 
 -- a line that names a field, or none
-pub changed_at : (o : Order) (field : Option Field) (value : List ℕ) → length o.message ≡ 320 → IfSome field Fits → Changed o field value (left (written_at o field value) o)
-changed_at o None value all fits = aside o o None value no_field refl (λ h. h)
-changed_at o (Some (Text at width)) value all fits = written_text o at width value all fits
-changed_at o (Some Mode) value all fits = changed_mode o value (mode_of value)
-changed_at o (Some (Number setting)) value all fits = changed_number o value setting (decimal value)
+pub changed_at : (o : Order) (field : Option Field) (value : List ℕ) → length o.message ≡ 320 → Changed o field value (left (written_at o field value) o)
+changed_at o None value all = aside o o None value no_field refl (λ h. h)
+changed_at o (Some (Text text)) value all = written_text o text value all
+changed_at o (Some Mode) value all = changed_mode o value (mode_of value)
+changed_at o (Some (Number setting)) value all = changed_number o value setting (decimal value)
 
 -- an empty line
 pub changed_by_none : (o : Order) (line : List ℕ) → length line ≡ 0 → Changed o (field_of (key_of line)) (value_of line) o

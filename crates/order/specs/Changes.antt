@@ -3,13 +3,15 @@ use Rattle.std.specs.Prelude.{◌≡◌, ℕ, ◌+◌, ◌≤◌, Bool, true, fa
 use Rattle.std.specs.List.{between}
 use Rattle.fields.specs.Settings.{allowed}
 use Rattle.order.specs.declared.Order.{Order}
+use Rattle.order.specs.declared.keys.TextField.{TextField}
 use Rattle.order.specs.declared.keys.Field.{Field}
 use Rattle.order.specs.declared.keys.Field.TheVariants.{Text, Mode, Number}
+use Rattle.order.specs.Keys.{text_at, text_width}
 use Rattle.order.specs.Orders.{padded}
 
 -- whether a byte of the message belongs to a field
 abbrev pub owns : Field → ℕ → Bool
-owns (Text at width) k = nat_le at k && nat_lt k (at + width)
+owns (Text text) k = nat_le (text_at text) k && nat_lt k (text_at text + text_width text)
 owns Mode k = false
 owns (Number setting) k = false
 
@@ -24,4 +26,5 @@ pub record Changed (before : Order) (field : Option Field) (value : List ℕ) (a
   -- a byte of the message outside the field stays as it was
   pub elsewhere : (k : ℕ) → owned field k ≡ false → slice_index after.message k ≡ slice_index before.message k
   -- a text that is not too long stands in its field, followed by spaces
-  pub held : (at width : ℕ) → field ≡ Some (Text at width) → length value ≤ width → between at (at + width) after.message ≡ padded width value
+  pub held : (text : TextField) → field ≡ Some (Text text) → length value ≤ text_width text
+      → between (text_at text) (text_at text + text_width text) after.message ≡ padded (text_width text) value

@@ -11,7 +11,7 @@ use Rattle.order.specs.declared.keys.Setting.TheVariants.{Cm, Dev, Mr, Voip, Sql
 use Rattle.order.specs.declared.keys.Field.{Field}
 use Rattle.order.specs.declared.keys.Field.TheVariants.{Text, Mode, Number}
 use Rattle.order.specs.Decimals.{decimal}
-use Rattle.order.specs.Keys.{field_of, mode_of, allows}
+use Rattle.order.specs.Keys.{field_of, mode_of, allows, text_at, text_width}
 use Rattle.order.specs.Lines.{bare_of, key_of, value_of}
 
 -- a message of 320 spaces
@@ -55,9 +55,9 @@ written_number o setting (Some n) =
 
 -- the order with a value in one of its parts
 abbrev pub written : Order → Field → List ℕ → Result Order Cause
-written o (Text at width) value =
-    cond (nat_le (length value) width)
-    (Ok (record { message = with_text o.message at width value; mode = o.mode; settings = o.settings }))
+written o (Text text) value =
+    cond (nat_le (length value) (text_width text))
+    (Ok (record { message = with_text o.message (text_at text) (text_width text) value; mode = o.mode; settings = o.settings }))
     (Err TooLong)
 written o Mode value = written_mode o (mode_of value)
 written o (Number setting) value = written_number o setting (decimal value)

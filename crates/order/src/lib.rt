@@ -12,9 +12,9 @@ ghost use Rattle.std.specs.Prelude.{◌≡◌, ◌+◌, ◌≤◌, true, length}
 ghost use Rattle.fields.specs.Settings.{allowed};
 ghost use Rattle.order.specs.Changes.{Changed};
 ghost use Rattle.order.specs.Decimals.{byte_of};
-ghost use Rattle.order.specs.Keys.{Fits, field_of};
+ghost use Rattle.order.specs.Keys.{field_of};
 ghost use Rattle.order.specs.Lines.{bare_of, key_of, value_of};
-ghost use Rattle.order.specs.Orders.{blank_message, blank_order, padded, with_setting, written, written_number, read_line, answer, left};
+ghost use Rattle.order.specs.Orders.{blank_order, padded, with_setting, written, written_number, read_line, answer, left};
 
 use cause::Cause;
 use decimal::decimal;
@@ -23,18 +23,12 @@ use fields::settings::Settings;
 use keys::{Field, Setting};
 
 /// What a header frame is to say.
-#[derive(Clone, Copy)]
+#[derive(Clone, Copy, PartialEq, Eq)]
 pub struct Order {
     /// Four texts of ten bytes, four of five, and spaces.
     pub message: [u8; 320],
     pub mode: DataType,
     pub settings: Settings,
-}
-
-fn blank() -> [u8; 320]
-    ensures { result ≡ blank_message }
-{
-    [b' '; 320]
 }
 
 /// Writes a text over the bytes of its field, and spaces over the rest of them.
@@ -43,49 +37,32 @@ fn put(place: &mut [u8], text: &[u8])
     ensures { place.new ≡ padded (length place.old) text.now }
 {
     place.fill(b' ');
-    place[0..text.len()].copy_from_slice(text);
+    place[..text.len()].copy_from_slice(text);
 }
 
-/// The settings with one of them changed.
-fn changed(settings: Settings, setting: Setting, number: u8) -> Settings
-    ensures { result ≡ with_setting settings setting number }
+/// Changes one of the settings.
+fn change(settings: &mut Settings, setting: Setting, number: u8)
+    ensures { settings.new ≡ with_setting settings.old setting number }
 {
     match setting {
-        Setting::Cm => Settings {
-            cm: number,
-            ..settings
-        },
-        Setting::Dev => Settings {
-            dev: number,
-            ..settings
-        },
-        Setting::Mr => Settings {
-            mr: number,
-            ..settings
-        },
-        Setting::Voip => Settings {
-            voip: number,
-            ..settings
-        },
-        Setting::Sql => Settings {
-            sql: number,
-            ..settings
-        },
-        Setting::Sc => Settings {
-            sc: number,
-            ..settings
-        },
+        Setting::Cm => settings.cm = number,
+        Setting::Dev => settings.dev = number,
+        Setting::Mr => settings.mr = number,
+        Setting::Voip => settings.voip = number,
+        Setting::Sql => settings.sql = number,
+        Setting::Sc => settings.sc = number,
     }
 }
 
 impl Order {
     /// An order with a message of spaces, the mode V/D type 2 and every setting 0.
+    #[tactic(auto, unfolding(crate::specs::Orders::blank_message))]
     pub fn new() -> Order
         ensures value { result ≡ blank_order }
         ensures settings { allowed result.settings ≡ true }
     {
         Order {
-            message: blank(),
+            message: [b' '; 320],
             mode: DataType::VdType2,
             settings: Settings {
                 cm: 0,
@@ -107,23 +84,22 @@ impl Order {
         if !setting.allows(number) {
             return Err(Cause::OutOfRange);
         }
-        self.settings = changed(self.settings, setting, number);
+        change(&mut self.settings, setting, number);
         Ok(())
     }
 
     /// Writes a value into the part of the order that takes it.
     fn write(&mut self, field: Field, value: &[u8]) -> Result<(), Cause>
-        requires { Fits field }
-        ensures whole { length self.old.message ≡ 320 }
         ensures value { result ≡ answer (written self.old field value.now) }
         ensures after { self.new ≡ left (written self.old field value.now) self.old }
     {
         match field {
-            Field::Text { at, width } => {
-                if value.len() > width {
+            Field::Text(text) => {
+                let place = text.place();
+                if value.len() > place.len() {
                     return Err(Cause::TooLong);
                 }
-                put(&mut self.message[at..at + width], value);
+                put(&mut self.message[place], value);
                 Ok(())
             }
             Field::Mode => {

@@ -1,6 +1,6 @@
 //! A line and its two parts.
-ghost use Rattle.std.specs.Prelude.{◌≡◌, ◌≤◌, length};
-ghost use Rattle.order.specs.Lines.{bare_of, key_length, key_of, value_of};
+ghost use Rattle.std.specs.Prelude.{◌≡◌, ◌==◌, position};
+ghost use Rattle.order.specs.Lines.{bare_of, key_of, value_of};
 
 /// The line without a carriage return at its end.
 pub fn bare(line: &[u8]) -> &[u8]
@@ -12,17 +12,11 @@ pub fn bare(line: &[u8]) -> &[u8]
     }
 }
 
-/// How many bytes stand before the first space.
-fn key_length(line: &[u8]) -> usize
-    ensures value { result ≡ key_length line.now }
-    ensures within { result ≤ length line.now }
+/// Where the first space stands.
+fn first_space(line: &[u8]) -> Option<usize>
+    ensures { result ≡ position (λ b. b == 32) line.now }
 {
-    for (i, b) in line.iter().enumerate() {
-        if *b == b' ' {
-            return i;
-        }
-    }
-    line.len()
+    line.iter().position(|b| *b == b' ')
 }
 
 /// The key and the value of a line.
@@ -30,9 +24,8 @@ pub fn split(line: &[u8]) -> (&[u8], &[u8])
     ensures key { result.0.now ≡ key_of line.now }
     ensures value { result.1.now ≡ value_of line.now }
 {
-    let end = key_length(line);
-    if end == line.len() {
-        return (line, &[]);
+    match first_space(line) {
+        Some(end) => (&line[..end], &line[end + 1..]),
+        None => (line, &[]),
     }
-    (&line[0..end], &line[end + 1..])
 }

@@ -5,10 +5,6 @@ use fields::fich::DataType;
 use fields::settings::Settings;
 use std::test::Fail;
 
-fn same(a: &Order, b: &Order) -> bool {
-    a.message == b.message && a.mode == b.mode && a.settings == b.settings
-}
-
 fn made(lines: &[&[u8]]) -> Result<Order, Cause> {
     let mut order = Order::new();
     for line in lines {
@@ -70,7 +66,7 @@ fn settings_and_mode_are_read(rt: HostRuntime) -> Result<(), Fail> {
 #[test]
 fn empty_lines_are_passed_over(rt: HostRuntime) -> Result<(), Fail> {
     let lines: [&[u8]; 2] = [b"", b"\r"];
-    assert!(rt; same(&made(&lines)?, &Order::new()));
+    assert!(rt; made(&lines)? == Order::new());
     Ok(())
 }
 
@@ -95,12 +91,18 @@ fn refused_lines_change_nothing(rt: HostRuntime) -> Result<(), Fail> {
     for (line, cause) in refused {
         let mut order = before;
         assert_eq!(rt; order.line(line), Err(cause));
-        assert!(rt; same(&order, &before));
+        assert!(rt; order == before);
     }
     Ok(())
 }
 
 #[test]
-fn causes_have_words(rt: HostRuntime) {
+fn causes_have_words(rt: HostRuntime) -> Result<(), Fail> {
     assert_eq!(rt; Cause::OutOfRange.text(), "number out of range");
+    let cause = Cause::TooLong;
+    assert_eq!(rt;
+        format!(in rt.alloc(); "{cause}")?.as_str(),
+        "value too long"
+    );
+    Ok(())
 }
