@@ -1,5 +1,5 @@
 -- One step of a walk keeps its law.
-use Rattle.std.proofs.Common.{◌≡◌, ℕ, zero, suc, ◌+◌, ◌-◌, ◌<◌, ◌≤◌, Bool, true, false, ltb, leb, List, length, Some, None, Option, sym, refl, ap, ◌∙◌, subst, ⊎_elim, arith}
+use Rattle.std.proofs.Common.{◌≡◌, ℕ, zero, suc, ◌+◌, ◌-◌, ◌<◌, ◌≤◌, Bool, true, false, ltb, leb, List, length, take, drop, Some, None, Option, sym, refl, ap, ◌∙◌, subst, ⊎_elim, arith}
 use Rattle.std.proofs.lemmas.Bool.{cases_Bool, cases_eq, both_ways, cond-true, cond-false, cond_both, leb-true, leb-false, ltb-true, ltb-false}
 use Rattle.measure.specs.Meaning.{Meaning}
 use Rattle.walk.specs.Sync.{synced, frame_places, first_of, first_sync}
@@ -12,6 +12,14 @@ never e = absurd (both_ways true e refl)
 
 pub ever : {X : Type 0} → false ≡ true → X
 ever e = absurd (both_ways false refl e)
+
+-- a frame that lends a part of the recording
+abbrev pub lending : {R : Type 0} → ℕ → Bool → List R → Option (Seen R)
+lending place missed part = Some record { place = place; missed = missed; readings = part }
+
+pub part_shown : {R : Type 0} (place : ℕ) (missed : Bool) (readings part : List R) → part ≡ take 480 (drop place readings)
+    → lending place missed part ≡ shown readings (Some (place, missed))
+part_shown place missed readings part e = ap (lending place missed) e
 
 module _ {S R T : Type 0} (μ : Meaning S R T) (m : S) (readings : List R) where
   -- where the first sync word of n places is

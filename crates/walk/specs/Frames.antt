@@ -3,7 +3,8 @@
 use Rattle.std.specs.Prelude.{◌≡◌, ℕ, zero, suc, ◌+◌, ◌-◌, ◌<◌, ◌≤◌, true, false, ◌⊎◌, List, [], ◌∷◌, ◌++◌, length, take, drop, Some, None, Option, ◌≢◌}
 use Rattle.measure.specs.Meaning.{Meaning}
 use Rattle.walk.specs.Sync.{Starts}
-use Rattle.walk.specs.Walks.{Position, Seen, start, frame_taken, position_after}
+use Rattle.walk.specs.declared.Walk.{Walk}
+use Rattle.walk.specs.Walks.{Position, Seen, here, start, frame_taken, position_after}
 
 -- a frame and those after it, if there is one
 abbrev pub then_more : {R : Type 0} → Option (Seen R) → List (Seen R) → List (Seen R)
@@ -81,3 +82,7 @@ module _ {S R T : Type 0} (μ : Meaning S R T) (m : S) (readings : List R) where
     pub order : InOrder 0 frames
     pub few_missed : NoFourMissed frames
     pub none_lost : (place : ℕ) → place + 480 ≤ length readings → Starts μ m readings place → Inside place frames
+
+-- the frames that a walk has still to hand out
+abbrev pub to_come : {S R T : Type 0} → Meaning S R T → Walk S R T → List (Seen R)
+to_come μ w = frames_after μ w.measure.now w.readings.now (here w)
