@@ -1,11 +1,11 @@
 //! The walk over a recording, from frame to frame.
 #![tactic(auto)]
 
-ghost use Rattle.std.specs.Prelude.{◌≡◌, ◌+◌, ◌<◌, ◌≤◌, true, false, length, take, drop, IfSome, Some, ⊤};
+ghost use Rattle.std.specs.Prelude.{◌≡◌, ◌+◌, ◌<◌, ◌≤◌, true, length, IfSome, Some};
 ghost use Rattle.std.specs.Iterator.{item_count, UpTo};
 ghost use Rattle.std.specs.Iterator.SizeHint.{IsWithinCount};
 ghost use Rattle.walk.specs.Sync.{sync_dibit, synced, frame_places, first_sync};
-ghost use Rattle.walk.specs.Walks.{here, as_seen, seen, start, past, shown, taken, frame_taken, position_after};
+ghost use Rattle.walk.specs.Walks.{here, seen, start, past, shown, taken};
 ghost use Rattle.walk.specs.Frames.{all_frames, to_come, Runs, Advances};
 
 use bits::{Dibit, bit};
