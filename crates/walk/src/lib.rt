@@ -84,7 +84,7 @@ impl<'a, M: Measure> Walk<'a, M> {
         self.readings.len().saturating_sub(FRAME_PLACES - 1)
     }
 
-    /// The first place from where it stands on where a sync word starts and a frame's readings remain.
+    /// The first place, from that of the walk on, where a sync word starts and a frame's readings remain.
     fn hunt(&self) -> Option<usize>
         ensures value { result ≡ first_sync M.means self.now.measure.now self.now.readings.now self.now.place }
         ensures whole { IfSome result (λ place. place + 480 ≤ length self.now.readings.now) }
