@@ -1,5 +1,5 @@
 -- A list of entries in lent slots.
-use Rattle.std.specs.Prelude.{ℕ, cond, List, length, take, Some, None, Option, nat_le}
+use Rattle.std.specs.Prelude.{◌≡◌, ℕ, cond, List, length, take, Some, None, Option, nat_le}
 use Rattle.fault.specs.declared.Fault.{Fault}
 use Rattle.fault.specs.declared.Fault.TheVariants.{ListFull}
 use Rattle.entries.specs.declared.bounded.BoundedList.{BoundedList}
@@ -16,3 +16,8 @@ module _ {X : Type 0} where
   -- a list that is full takes no more
   abbrev pub push_fault : BoundedList X → Option Fault
   push_fault list = cond (nat_le (capacity list) (length (listed list))) (Some ListFull) None
+
+  -- a list keeps the slots that were lent to it
+  pub record SameSlots (before after : BoundedList X) : Type 0 where
+    pub room : capacity after ≡ capacity before
+    pub named : after.slots.ghost_name ≡ before.slots.ghost_name

@@ -2,8 +2,7 @@
 use Rattle.std.specs.Prelude.{ℕ, ◌+◌, ◌/◌, ◌%◌, Bool, cond, List, [], ◌∷◌, ◌++◌, codes, decimal, nat_lt}
 use Rattle.fault.specs.Faults.{number_of, detail_of}
 use Rattle.fields.specs.Fields.{fich_bytes}
-use Rattle.entries.specs.declared.entry.Line.{Line}
-use Rattle.entries.specs.declared.entry.Line.TheVariants.{Accepted, Refused}
+use Rattle.entries.specs.Entries.{Line, by_line}
 
 abbrev pub flag_number : Bool → ℕ
 flag_number set = cond set 1 0
@@ -24,5 +23,6 @@ row place missed number detail =
     decimal place ++ (codes " " ++ (decimal (flag_number missed) ++ (codes " " ++ (decimal number ++ (codes " " ++ detail)))))
 
 abbrev pub line_text : Line → List ℕ
-line_text (Accepted frame) = row frame.place frame.missed 0 (hex_bytes (fich_bytes frame.fich))
-line_text (Refused refusal) = row refusal.place refusal.missed (number_of refusal.fault) (decimal (detail_of refusal.fault))
+line_text = by_line
+    (λ frame. row frame.place frame.missed 0 (hex_bytes (fich_bytes frame.outcome)))
+    (λ refusal. row refusal.place refusal.missed (number_of refusal.outcome) (decimal (detail_of refusal.outcome)))

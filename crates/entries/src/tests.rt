@@ -1,16 +1,16 @@
 //! Lines and their text.
 use crate::bounded::BoundedList;
-use crate::entry::{FaultEntry, FrameEntry, Line};
+use crate::entry::{Entry, FaultEntry, FrameEntry};
 use crate::merge;
 use fault::Fault;
 use fields::fich::{CallMode, DataType, Fich, FrameKind, Routing};
 use std::test::Fail;
 
 fn frame_at(place: usize) -> FrameEntry {
-    FrameEntry {
+    Entry {
         place,
         missed: false,
-        fich: Fich {
+        outcome: Fich {
             kind: FrameKind::Terminator,
             call_mode: CallMode::Individual,
             block_number: 0,
@@ -29,10 +29,10 @@ fn frame_at(place: usize) -> FrameEntry {
 }
 
 fn fault_at(place: usize) -> FaultEntry {
-    FaultEntry {
+    Entry {
         place,
         missed: true,
-        fault: Fault::Improper(479),
+        outcome: Fault::Improper(479),
     }
 }
 

@@ -1,32 +1,25 @@
 -- Two lists on their way through the lines of a recording: what they hold, and what the lines still to come will add.
-use Rattle.std.proofs.Common.{◌≡◌, ℕ, ◌+◌, ◌-◌, Bool, true, false, cond, eqb, List, [], ◌∷◌, ◌++◌, length, Some, None, Option, sym, refl, ap, ◌∙◌, append_assoc, append-nil, arith}
+use Rattle.std.proofs.Common.{◌≡◌, ℕ, ◌-◌, Bool, true, false, cond, List, [], ◌∷◌, ◌++◌, length, Some, None, Option, sym, refl, ap, ◌∙◌, append_assoc, append-nil, arith}
 use Rattle.std.proofs.lemmas.List.{length_push}
+use Rattle.std.proofs.lemmas.List.Elements.{filter_map-append}
 use Rattle.std.proofs.lemmas.Bool.{cond-true, cond-false}
 use Rattle.fault.specs.declared.Fault.{Fault}
 use Rattle.fault.specs.declared.Fault.TheVariants.{ListFull}
-use Rattle.entries.specs.declared.entry.FrameEntry.{FrameEntry}
-use Rattle.entries.specs.declared.entry.FaultEntry.{FaultEntry}
-use Rattle.entries.specs.declared.entry.Line.{Line}
-use Rattle.entries.specs.declared.entry.Line.TheVariants.{Accepted, Refused}
-use Rattle.entries.specs.Lines.{accepted, refused}
-use Rattle.index.specs.Index.{fitting, full_fault}
+use Rattle.entries.specs.Entries.{FrameEntry, FaultEntry, Line}
+use Rattle.entries.specs.Lines.{accepted_part, refused_part, accepted, refused}
+use Rattle.entries.proofs.Merging.{each_line}
+use Rattle.index.specs.Index.{no_room, accepted_room, refused_room, fitting, full_fault}
 
 -- a line that finds room
-pub fit_accepted : (a r : ℕ) (e : FrameEntry) (lines : List Line) → eqb a 0 ≡ false → fitting a r (Accepted e ∷ lines) ≡ Accepted e ∷ fitting (a - 1) r lines
+pub fits : (a r : ℕ) (line : Line) (lines : List Line) → no_room a r line ≡ false
+    → fitting a r (line ∷ lines) ≡ line ∷ fitting (accepted_room a line) (refused_room r line) lines
 unfolding fitting
-fit_accepted a r e lines room = cond-false _ _ _ room
+fits a r line lines room = cond-false _ _ _ room
 
-pub fit_refused : (a r : ℕ) (e : FaultEntry) (lines : List Line) → eqb r 0 ≡ false → fitting a r (Refused e ∷ lines) ≡ Refused e ∷ fitting a (r - 1) lines
-unfolding fitting
-fit_refused a r e lines room = cond-false _ _ _ room
-
-pub go_accepted : (a r : ℕ) (e : FrameEntry) (lines : List Line) → eqb a 0 ≡ false → full_fault a r (Accepted e ∷ lines) ≡ full_fault (a - 1) r lines
+pub goes : (a r : ℕ) (line : Line) (lines : List Line) → no_room a r line ≡ false
+    → full_fault a r (line ∷ lines) ≡ full_fault (accepted_room a line) (refused_room r line) lines
 unfolding full_fault
-go_accepted a r e lines room = cond-false _ _ _ room
-
-pub go_refused : (a r : ℕ) (e : FaultEntry) (lines : List Line) → eqb r 0 ≡ false → full_fault a r (Refused e ∷ lines) ≡ full_fault a (r - 1) lines
-unfolding full_fault
-go_refused a r e lines room = cond-false _ _ _ room
+goes a r line lines room = cond-false _ _ _ room
 
 -- a test by which nothing was refused, and one by which something was
 room-left : (full : Bool) → cond full (Some ListFull) None ≡ None → full ≡ false
@@ -40,11 +33,8 @@ is_full false fault e = let z : ◌≡◌ {A = ℕ} 0 1 = cc in absurd (omega ar
 nothing_fits : (a r : ℕ) (line : Line) (lines : List Line) (fault : Fault) → full_fault a r (line ∷ []) ≡ Some fault
     → (fitting a r (line ∷ lines) ≡ []) × (fitting a r (line ∷ []) ≡ []) × (full_fault a r (line ∷ lines) ≡ Some fault)
 unfolding fitting full_fault
-nothing_fits a r (Accepted e) lines fault h =
-    let full = is_full (eqb a 0) fault h in
-    (cond-true _ _ _ full, cond-true _ _ _ full, cond-true _ _ _ full ∙ sym (cond-true _ _ _ full) ∙ h)
-nothing_fits a r (Refused e) lines fault h =
-    let full = is_full (eqb r 0) fault h in
+nothing_fits a r line lines fault h =
+    let full = is_full (no_room a r line) fault h in
     (cond-true _ _ _ full, cond-true _ _ _ full, cond-true _ _ _ full ∙ sym (cond-true _ _ _ full) ∙ h)
 
 -- two lists with these entries and these numbers of slots, and the lines still to come, end with these entries and this refusal
@@ -53,21 +43,6 @@ pub record Leads (frame-slots fault-slots : ℕ) (frames : List FrameEntry) (fau
   pub frames_end : frames ++ accepted (fitting (frame-slots - length frames) (fault-slots - length faults) lines) ≡ all_frames
   pub faults_end : faults ++ refused (fitting (frame-slots - length frames) (fault-slots - length faults) lines) ≡ all-faults
   pub answer : full_fault (frame-slots - length frames) (fault-slots - length faults) lines ≡ fault
-
-module _ (p q : ℕ) (frames frames' : List FrameEntry) (faults faults' : List FaultEntry) (line : Line) (lines : List Line)
-    (all_frames : List FrameEntry) (all-faults : List FaultEntry) (fault : Option Fault)
-    (leads : Leads p q frames faults (line ∷ lines) all_frames all-faults fault)
-    (new-frames : frames' ≡ frames ++ accepted (fitting (p - length frames) (q - length faults) (line ∷ [])))
-    (new-faults : faults' ≡ faults ++ refused (fitting (p - length frames) (q - length faults) (line ∷ []))) where
-  -- a line that found no room is the last
-  pub stops : (e : Fault) → full_fault (p - length frames) (q - length faults) (line ∷ []) ≡ Some e
-      → (frames' ≡ all_frames) × (faults' ≡ all-faults) × (Some e ≡ fault)
-  stops e full =
-      let n = nothing_fits (p - length frames) (q - length faults) line lines e full in (
-        new-frames ∙ ap (λ l. frames ++ accepted l) (n.1 ∙ sym n.0) ∙ leads.frames_end,
-        new-faults ∙ ap (λ l. faults ++ refused l) (n.1 ∙ sym n.0) ∙ leads.faults_end,
-        sym n.2 ∙ leads.answer,
-      )
 
 -- before the first line
 pub begins : (p q : ℕ) (frames : List FrameEntry) (faults : List FaultEntry) (lines all : List Line) → lines ≡ all
@@ -94,73 +69,69 @@ done p q frames faults lines all_frames all-faults fault none leads =
       ap (full_fault a r) (sym none) ∙ leads.answer,
     )
 
-one_less : (p n k : ℕ) → n ≡ k + 1 → p - n ≡ p - k - 1
-one_less p n k e = omega arith
+-- the room that a line's entry leaves
+frames_left : (p : ℕ) (frames : List FrameEntry) (line : Line) → p - length (frames ++ accepted (line ∷ [])) ≡ accepted_room (p - length frames) line
+frames_left p frames =
+    each_line (λ line. p - length (frames ++ accepted (line ∷ [])) ≡ accepted_room (p - length frames) line)
+    (λ e. omega (arith, length_push frames e))
+    (λ e. ap (λ l. p - length l) (append-nil frames))
 
-module _ (p q : ℕ) (frames frames' : List FrameEntry) (faults faults' : List FaultEntry) (lines : List Line)
-    (all_frames : List FrameEntry) (all-faults : List FaultEntry) (fault : Option Fault) where
+faults_left : (q : ℕ) (faults : List FaultEntry) (line : Line) → q - length (faults ++ refused (line ∷ [])) ≡ refused_room (q - length faults) line
+faults_left q faults =
+    each_line (λ line. q - length (faults ++ refused (line ∷ [])) ≡ refused_room (q - length faults) line)
+    (λ e. ap (λ l. q - length l) (append-nil faults))
+    (λ e. omega (arith, length_push faults e))
+
+module _ (p q : ℕ) (frames frames' : List FrameEntry) (faults faults' : List FaultEntry) (line : Line) (lines : List Line)
+    (all_frames : List FrameEntry) (all-faults : List FaultEntry) (fault : Option Fault)
+    (leads : Leads p q frames faults (line ∷ lines) all_frames all-faults fault)
+    (new-frames : frames' ≡ frames ++ accepted (fitting (p - length frames) (q - length faults) (line ∷ [])))
+    (new-faults : faults' ≡ faults ++ refused (fitting (p - length frames) (q - length faults) (line ∷ []))) where
+  -- a line that found no room is the last
+  pub stops : (e : Fault) → full_fault (p - length frames) (q - length faults) (line ∷ []) ≡ Some e
+      → (frames' ≡ all_frames) × (faults' ≡ all-faults) × (Some e ≡ fault)
+  stops e full =
+      let n = nothing_fits (p - length frames) (q - length faults) line lines e full in (
+        new-frames ∙ ap (λ l. frames ++ accepted l) (n.1 ∙ sym n.0) ∙ leads.frames_end,
+        new-faults ∙ ap (λ l. faults ++ refused l) (n.1 ∙ sym n.0) ∙ leads.faults_end,
+        sym n.2 ∙ leads.answer,
+      )
+
   -- a line that found room is done
-  pub goes_on : (line : Line) → Leads p q frames faults (line ∷ lines) all_frames all-faults fault
-      → frames' ≡ frames ++ accepted (fitting (p - length frames) (q - length faults) (line ∷ []))
-      → faults' ≡ faults ++ refused (fitting (p - length frames) (q - length faults) (line ∷ []))
-      → full_fault (p - length frames) (q - length faults) (line ∷ []) ≡ None
-      → Leads p q frames' faults' lines all_frames all-faults fault
+  pub goes_on : full_fault (p - length frames) (q - length faults) (line ∷ []) ≡ None → Leads p q frames' faults' lines all_frames all-faults fault
   unfolding fitting full_fault
-  goes_on (Accepted e) leads new-frames new-faults none =
+  goes_on none =
       let a = p - length frames in
       let r = q - length faults in
-      let room = room-left (eqb a 0) none in
-      let one = fit_accepted a r e [] room in
-      let f : frames' ≡ frames ++ e ∷ [] = new-frames ∙ ap (λ l. frames ++ accepted l) one in
-      let s : faults' ≡ faults = new-faults ∙ ap (λ l. faults ++ refused l) one ∙ append-nil faults in
-      let ea : p - length frames' ≡ a - 1 = one_less p (length frames') (length frames) (ap length f ∙ length_push frames e) in
-      let er : q - length faults' ≡ r = ap (λ l. q - length l) s in
-      let rest = fit_accepted a r e lines room in
-      let fits : fitting (p - length frames') (q - length faults') lines ≡ fitting (a - 1) r lines = ap (λ n. fitting n (q - length faults') lines) ea ∙ ap (λ n. fitting (a - 1) n lines) er in
+      let a' = accepted_room a line in
+      let r' = refused_room r line in
+      let room = room-left (no_room a r line) none in
+      let one = fits a r line [] room in
+      let rest = fits a r line lines room in
+      let f : frames' ≡ frames ++ accepted (line ∷ []) = new-frames ∙ ap (λ l. frames ++ accepted l) one in
+      let s : faults' ≡ faults ++ refused (line ∷ []) = new-faults ∙ ap (λ l. faults ++ refused l) one in
+      let fa : p - length frames' ≡ a' = ap (λ l. p - length l) f ∙ frames_left p frames line in
+      let fr : q - length faults' ≡ r' = ap (λ l. q - length l) s ∙ faults_left q faults line in
+      let same : fitting (p - length frames') (q - length faults') lines ≡ fitting a' r' lines =
+      ap (λ n. fitting n (q - length faults') lines) fa ∙ ap (λ n. fitting a' n lines) fr in
       record {
         frames_end =
             ap (λ l. l ++ accepted (fitting (p - length frames') (q - length faults') lines)) f
-            ∙ append_assoc frames (e ∷ []) (accepted (fitting (p - length frames') (q - length faults') lines))
-            ∙ ap (λ l. frames ++ e ∷ accepted l) fits
+            ∙ append_assoc frames (accepted (line ∷ [])) (accepted (fitting (p - length frames') (q - length faults') lines))
+            ∙ ap (λ l. frames ++ (accepted (line ∷ []) ++ accepted l)) same
+            ∙ ap (λ l. frames ++ l) (sym (filter_map-append accepted_part (line ∷ []) (fitting a' r' lines)))
             ∙ ap (λ l. frames ++ accepted l) (sym rest)
             ∙ leads.frames_end;
         faults_end =
             ap (λ l. l ++ refused (fitting (p - length frames') (q - length faults') lines)) s
-            ∙ ap (λ l. faults ++ refused l) fits
+            ∙ append_assoc faults (refused (line ∷ [])) (refused (fitting (p - length frames') (q - length faults') lines))
+            ∙ ap (λ l. faults ++ (refused (line ∷ []) ++ refused l)) same
+            ∙ ap (λ l. faults ++ l) (sym (filter_map-append refused_part (line ∷ []) (fitting a' r' lines)))
             ∙ ap (λ l. faults ++ refused l) (sym rest)
             ∙ leads.faults_end;
         answer =
-            ap (λ n. full_fault n (q - length faults') lines) ea
-            ∙ ap (λ n. full_fault (a - 1) n lines) er
-            ∙ sym (go_accepted a r e lines room)
-            ∙ leads.answer;
-      }
-  goes_on (Refused e) leads new-frames new-faults none =
-      let a = p - length frames in
-      let r = q - length faults in
-      let room = room-left (eqb r 0) none in
-      let one = fit_refused a r e [] room in
-      let f : faults' ≡ faults ++ e ∷ [] = new-faults ∙ ap (λ l. faults ++ refused l) one in
-      let s : frames' ≡ frames = new-frames ∙ ap (λ l. frames ++ accepted l) one ∙ append-nil frames in
-      let ea : p - length frames' ≡ a = ap (λ l. p - length l) s in
-      let er : q - length faults' ≡ r - 1 = one_less q (length faults') (length faults) (ap length f ∙ length_push faults e) in
-      let rest = fit_refused a r e lines room in
-      let fits : fitting (p - length frames') (q - length faults') lines ≡ fitting a (r - 1) lines = ap (λ n. fitting n (q - length faults') lines) ea ∙ ap (λ n. fitting a n lines) er in
-      record {
-        frames_end =
-            ap (λ l. l ++ accepted (fitting (p - length frames') (q - length faults') lines)) s
-            ∙ ap (λ l. frames ++ accepted l) fits
-            ∙ ap (λ l. frames ++ accepted l) (sym rest)
-            ∙ leads.frames_end;
-        faults_end =
-            ap (λ l. l ++ refused (fitting (p - length frames') (q - length faults') lines)) f
-            ∙ append_assoc faults (e ∷ []) (refused (fitting (p - length frames') (q - length faults') lines))
-            ∙ ap (λ l. faults ++ e ∷ refused l) fits
-            ∙ ap (λ l. faults ++ refused l) (sym rest)
-            ∙ leads.faults_end;
-        answer =
-            ap (λ n. full_fault n (q - length faults') lines) ea
-            ∙ ap (λ n. full_fault a n lines) er
-            ∙ sym (go_refused a r e lines room)
+            ap (λ n. full_fault n (q - length faults') lines) fa
+            ∙ ap (λ n. full_fault a' n lines) fr
+            ∙ sym (goes a r line lines room)
             ∙ leads.answer;
       }

@@ -1,38 +1,64 @@
 -- Which lines an index keeps.
-use Rattle.std.proofs.Common.{◌≡◌, ℕ, ◌+◌, ◌-◌, ◌≤◌, Bool, true, cond, eqb, List, [], ◌∷◌, map, length, Some, None, Ok, Err, Option, Result, sym, refl, ap, ◌∙◌, subst, ⊎_elim, arith}
+use Rattle.std.proofs.Common.{◌≡◌, ℕ, ◌+◌, ◌-◌, ◌≤◌, Bool, true, false, cond, eqb, List, [], ◌∷◌, map, length, Some, None, Option, sym, refl, ap, ◌∙◌, subst, ⊎_elim, arith}
 use Rattle.std.proofs.lemmas.Bool.{eqb-true, eqb-false, cond_both, cond-true, cases_Bool}
 use Rattle.fault.specs.declared.Fault.{Fault}
 use Rattle.fault.specs.declared.Fault.TheVariants.{ListFull}
-use Rattle.fields.specs.declared.fich.Fich.{Fich}
 use Rattle.measure.specs.Meaning.{Meaning}
 use Rattle.walk.specs.Walks.{Seen}
 use Rattle.walk.specs.Frames.{InOrder, Runs, all_frames}
-use Rattle.entries.specs.declared.entry.FrameEntry.{FrameEntry}
-use Rattle.entries.specs.declared.entry.FaultEntry.{FaultEntry}
-use Rattle.entries.specs.declared.entry.Line.{Line}
-use Rattle.entries.specs.declared.entry.Line.TheVariants.{Accepted, Refused}
-use Rattle.entries.specs.Lines.{accepted, refused, place_of, line_places, Spaced, SplitsBack}
-use Rattle.index.specs.Index.{line_of, frame_line, recorded, fitting, full_fault, NoRoomFor, LeftOut, Indexed}
-use Rattle.index.proofs.Going.{fit_accepted, fit_refused, go_accepted, go_refused}
+use Rattle.entries.specs.Entries.{Line, accepted_line, refused_line}
+use Rattle.entries.specs.Lines.{accepted, refused, places, Spaced, SplitsBack}
+use Rattle.entries.proofs.Merging.{each_line}
+use Rattle.index.specs.Index.{frame_line, recorded, no_room, accepted_room, refused_room, fitting, full_fault, NoRoomFor, LeftOut, Indexed}
+use Rattle.index.proofs.Going.{fits, goes}
+
+-- one line more that finds room, before those that are kept
+module _ (a r : ℕ) (kept : List Line) where
+  more_accepted : (line : Line) → no_room a r line ≡ false → length (accepted kept) ≤ accepted_room a line → length (accepted (line ∷ kept)) ≤ a
+  more_accepted =
+      each_line (λ line. no_room a r line ≡ false → length (accepted kept) ≤ accepted_room a line → length (accepted (line ∷ kept)) ≤ a)
+      (λ e some h. omega (arith, eqb-false a 0 some))
+      (λ e some h. h)
+
+  more_refused : (line : Line) → no_room a r line ≡ false → length (refused kept) ≤ refused_room r line → length (refused (line ∷ kept)) ≤ r
+  more_refused =
+      each_line (λ line. no_room a r line ≡ false → length (refused kept) ≤ refused_room r line → length (refused (line ∷ kept)) ≤ r)
+      (λ e some h. h)
+      (λ e some h. omega (arith, eqb-false r 0 some))
+
+  more_kept : (line other : Line) → no_room a r line ≡ false → NoRoomFor (accepted_room a line) (refused_room r line) kept other → NoRoomFor a r (line ∷ kept) other
+  more_kept =
+      each_line (λ line. (other : Line) → no_room a r line ≡ false → NoRoomFor (accepted_room a line) (refused_room r line) kept other → NoRoomFor a r (line ∷ kept) other)
+      (λ e. each_line (λ other. eqb a 0 ≡ false → NoRoomFor (a - 1) r kept other → NoRoomFor a r (accepted_line e ∷ kept) other)
+      (λ x some full. omega (arith, eqb-false a 0 some))
+      (λ x some full. full))
+      (λ e. each_line (λ other. eqb r 0 ≡ false → NoRoomFor a (r - 1) kept other → NoRoomFor a r (refused_line e ∷ kept) other)
+      (λ x some full. full)
+      (λ x some full. omega (arith, eqb-false r 0 some)))
+
+-- a list with no slot left is full with no entries
+none_kept : (a r : ℕ) (line : Line) → no_room a r line ≡ true → NoRoomFor a r [] line
+none_kept a r =
+    each_line (λ line. no_room a r line ≡ true → NoRoomFor a r [] line)
+    (λ e full. sym (eqb-true a 0 full))
+    (λ e full. sym (eqb-true r 0 full))
 
 -- no more entries than there is room for
 accepted_fit : (a r : ℕ) (lines : List Line) → length (accepted (fitting a r lines)) ≤ a
 unfolding fitting
 accepted_fit a r [] = omega arith
-accepted_fit a r (Accepted e ∷ lines) =
-    cond_both (eqb a 0) [] (Accepted e ∷ fitting (a - 1) r lines) (λ l. length (accepted l) ≤ a) (λ _. omega arith)
-    (λ some. omega (arith, eqb-false a 0 some, accepted_fit (a - 1) r lines))
-accepted_fit a r (Refused e ∷ lines) =
-    cond_both (eqb r 0) [] (Refused e ∷ fitting a (r - 1) lines) (λ l. length (accepted l) ≤ a) (λ _. omega arith) (λ _. accepted_fit a (r - 1) lines)
+accepted_fit a r (line ∷ lines) =
+    let rest = fitting (accepted_room a line) (refused_room r line) lines in
+    cond_both (no_room a r line) [] (line ∷ rest) (λ l. length (accepted l) ≤ a) (λ _. omega arith)
+    (λ some. more_accepted a r rest line some (accepted_fit (accepted_room a line) (refused_room r line) lines))
 
 refused_fit : (a r : ℕ) (lines : List Line) → length (refused (fitting a r lines)) ≤ r
 unfolding fitting
 refused_fit a r [] = omega arith
-refused_fit a r (Accepted e ∷ lines) =
-    cond_both (eqb a 0) [] (Accepted e ∷ fitting (a - 1) r lines) (λ l. length (refused l) ≤ r) (λ _. omega arith) (λ _. refused_fit (a - 1) r lines)
-refused_fit a r (Refused e ∷ lines) =
-    cond_both (eqb r 0) [] (Refused e ∷ fitting a (r - 1) lines) (λ l. length (refused l) ≤ r) (λ _. omega arith)
-    (λ some. omega (arith, eqb-false r 0 some, refused_fit a (r - 1) lines))
+refused_fit a r (line ∷ lines) =
+    let rest = fitting (accepted_room a line) (refused_room r line) lines in
+    cond_both (no_room a r line) [] (line ∷ rest) (λ l. length (refused l) ≤ r) (λ _. omega arith)
+    (λ some. more_refused a r rest line some (refused_fit (accepted_room a line) (refused_room r line) lines))
 
 -- what a line with no room gives, and one with room
 absurd_none : {A : Type 0} (b : Bool) (o : Option Fault) → cond b (Some ListFull) o ≡ None → b ≡ true → A
@@ -41,23 +67,12 @@ absurd_none b o e t = let f = cond-true b (Some ListFull) o t in let z : ◌≡�
 all_kept : (a r : ℕ) (lines : List Line) → full_fault a r lines ≡ None → fitting a r lines ≡ lines
 unfolding fitting full_fault
 all_kept a r [] e = refl
-all_kept a r (Accepted x ∷ lines) e =
-    ⊎_elim (λ full. absurd_none (eqb a 0) (full_fault (a - 1) r lines) e full)
-    (λ room. fit_accepted a r x lines room ∙ ap (λ l. Accepted x ∷ l) (all_kept (a - 1) r lines (sym (go_accepted a r x lines room) ∙ e)))
-    (cases_Bool (eqb a 0))
-all_kept a r (Refused x ∷ lines) e =
-    ⊎_elim (λ full. absurd_none (eqb r 0) (full_fault a (r - 1) lines) e full)
-    (λ room. fit_refused a r x lines room ∙ ap (λ l. Refused x ∷ l) (all_kept a (r - 1) lines (sym (go_refused a r x lines room) ∙ e)))
-    (cases_Bool (eqb r 0))
-
--- one line more that is kept
-more_accepted : (a r : ℕ) (kept : List Line) (e : FrameEntry) (line : Line) → (a ≡ 0 → ⊥) → NoRoomFor (a - 1) r kept line → NoRoomFor a r (Accepted e ∷ kept) line
-more_accepted a r kept e (Accepted x) some full = omega (arith, some)
-more_accepted a r kept e (Refused x) some full = full
-
-more_refused : (a r : ℕ) (kept : List Line) (e : FaultEntry) (line : Line) → (r ≡ 0 → ⊥) → NoRoomFor a (r - 1) kept line → NoRoomFor a r (Refused e ∷ kept) line
-more_refused a r kept e (Accepted x) some full = full
-more_refused a r kept e (Refused x) some full = omega (arith, some)
+all_kept a r (line ∷ lines) e =
+    let a' = accepted_room a line in
+    let r' = refused_room r line in
+    ⊎_elim (λ full. absurd_none (no_room a r line) (full_fault a' r' lines) e full)
+    (λ room. fits a r line lines room ∙ ap (λ l. line ∷ l) (all_kept a' r' lines (sym (goes a r line lines room) ∙ e)))
+    (cases_Bool (no_room a r line))
 
 abbrev Stopped : ℕ → ℕ → List Line → List Line → Fault → Type 0
 Stopped a r lines kept fault = (fault ≡ ListFull) × LeftOut a r lines kept
@@ -68,72 +83,43 @@ same_fault fault o e f = cc
 stopped : (a r : ℕ) (lines : List Line) (fault : Fault) → full_fault a r lines ≡ Some fault → Stopped a r lines (fitting a r lines) fault
 unfolding fitting full_fault
 stopped a r [] fault e = let z : ◌≡◌ {A = ℕ} 0 1 = cc in absurd (omega arith)
-stopped a r (Accepted x ∷ lines) fault e =
+stopped a r (line ∷ lines) fault e =
+    let a' = accepted_room a line in
+    let r' = refused_room r line in
     ⊎_elim
     (λ full. (
       same_fault fault _ e (cond-true _ _ _ full),
-      subst (LeftOut a r (Accepted x ∷ lines)) (sym (cond-true (eqb a 0) [] (Accepted x ∷ fitting (a - 1) r lines) full))
-          record { line = Accepted x; after = lines; whole = refl; full = sym (eqb-true a 0 full) },
+      subst (LeftOut a r (line ∷ lines)) (sym (cond-true (no_room a r line) [] (line ∷ fitting a' r' lines) full))
+          record { line = line; after = lines; whole = refl; full = none_kept a r line full },
     ))
     (λ room.
-    let rest = stopped (a - 1) r lines fault (sym (go_accepted a r x lines room) ∙ e) in
+    let rest = stopped a' r' lines fault (sym (goes a r line lines room) ∙ e) in
     let out = rest.1 in (
       rest.0,
-      subst (LeftOut a r (Accepted x ∷ lines)) (sym (fit_accepted a r x lines room))
+      subst (LeftOut a r (line ∷ lines)) (sym (fits a r line lines room))
           record {
             line = out.line;
             after = out.after;
-            whole = ap (λ l. Accepted x ∷ l) out.whole;
-            full = more_accepted a r (fitting (a - 1) r lines) x out.line (eqb-false a 0 room) out.full;
+            whole = ap (λ l. line ∷ l) out.whole;
+            full = more_kept a r (fitting a' r' lines) line out.line room out.full;
           },
     ))
-    (cases_Bool (eqb a 0))
-stopped a r (Refused x ∷ lines) fault e =
-    ⊎_elim
-    (λ full. (
-      same_fault fault _ e (cond-true _ _ _ full),
-      subst (LeftOut a r (Refused x ∷ lines)) (sym (cond-true (eqb r 0) [] (Refused x ∷ fitting a (r - 1) lines) full))
-          record { line = Refused x; after = lines; whole = refl; full = sym (eqb-true r 0 full) },
-    ))
-    (λ room.
-    let rest = stopped a (r - 1) lines fault (sym (go_refused a r x lines room) ∙ e) in
-    let out = rest.1 in (
-      rest.0,
-      subst (LeftOut a r (Refused x ∷ lines)) (sym (fit_refused a r x lines room))
-          record {
-            line = out.line;
-            after = out.after;
-            whole = ap (λ l. Refused x ∷ l) out.whole;
-            full = more_refused a r (fitting a (r - 1) lines) x out.line (eqb-false r 0 room) out.full;
-          },
-    ))
-    (cases_Bool (eqb r 0))
+    (cases_Bool (no_room a r line))
 
 -- ---- places
 
 -- lines that are kept ascend as all do
-spaced-kept : (a r low low' : ℕ) (lines : List Line) → low' ≤ low → Spaced 480 low (line_places lines) → Spaced 1 low' (line_places (fitting a r lines))
+spaced-kept : (a r low low' : ℕ) (lines : List Line) → low' ≤ low → Spaced 480 low (places lines) → Spaced 1 low' (places (fitting a r lines))
 unfolding fitting
 spaced-kept a r low low' [] h s = tt
-spaced-kept a r low low' (Accepted e ∷ lines) h s =
-    cond_both (eqb a 0) [] (Accepted e ∷ fitting (a - 1) r lines) (λ l. Spaced 1 low' (line_places l)) (λ _. tt)
-    (λ _. (omega (arith, s.0), spaced-kept (a - 1) r (e.place + 480) (e.place + 1) lines (omega arith) s.1))
-spaced-kept a r low low' (Refused e ∷ lines) h s =
-    cond_both (eqb r 0) [] (Refused e ∷ fitting a (r - 1) lines) (λ l. Spaced 1 low' (line_places l)) (λ _. tt)
-    (λ _. (omega (arith, s.0), spaced-kept a (r - 1) (e.place + 480) (e.place + 1) lines (omega arith) s.1))
-
-place_of-line : (place : ℕ) (missed : Bool) (outcome : Result Fich Fault) → place_of (line_of place missed outcome) ≡ place
-place_of-line place missed (Ok fich) = refl
-place_of-line place missed (Err fault) = refl
+spaced-kept a r low low' (line ∷ lines) h s =
+    cond_both (no_room a r line) [] (line ∷ fitting (accepted_room a line) (refused_room r line) lines) (λ l. Spaced 1 low' (places l)) (λ _. tt)
+    (λ _. (omega (arith, s.0), spaced-kept (accepted_room a line) (refused_room r line) (line.place + 480) (line.place + 1) lines (omega arith) s.1))
 
 module _ {S R T : Type 0} (μ : Meaning S R T) (m : S) (readings : List R) where
-  spaced-frames : (low : ℕ) (frames : List (Seen R)) → InOrder μ m readings low frames → Spaced 480 low (line_places (map (frame_line μ m) frames))
+  spaced-frames : (low : ℕ) (frames : List (Seen R)) → InOrder μ m readings low frames → Spaced 480 low (places (map (frame_line μ m) frames))
   spaced-frames low [] h = tt
-  spaced-frames low (f ∷ frames) h =
-      let place = place_of-line f.place f.missed _ in (
-        subst (λ n. low ≤ n) (sym place) h.0,
-        subst (λ n. Spaced 480 (n + 480) (line_places (map (frame_line μ m) frames))) (sym place) (spaced-frames (f.place + 480) frames h.2),
-      )
+  spaced-frames low (f ∷ frames) h = (h.0, spaced-frames (f.place + 480) frames h.2)
 
   pub indexed : SplitsBack → Runs μ m readings (all_frames μ m readings) → (a r : ℕ) → Indexed a r (recorded μ m readings)
   indexed back runs a r =

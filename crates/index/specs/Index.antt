@@ -1,5 +1,5 @@
 -- The lines of a recording: what was read of each of its frames, or why the frame was refused; and those that find room in two lists.
-use Rattle.std.specs.Prelude.{◌≡◌, ℕ, ◌-◌, ◌≤◌, Bool, cond, List, [], ◌∷◌, ◌++◌, map, length, Some, None, Ok, Err, Option, Result, ◌==◌}
+use Rattle.std.specs.Prelude.{◌≡◌, ℕ, ◌-◌, ◌≤◌, Bool, cond, List, [], ◌∷◌, ◌++◌, map, length, Some, None, Option, Result, ◌==◌}
 use Rattle.fault.specs.declared.Fault.{Fault}
 use Rattle.fault.specs.declared.Fault.TheVariants.{ListFull}
 use Rattle.fault.specs.Faults.{unless}
@@ -10,10 +10,9 @@ use Rattle.walk.specs.Walks.{Seen}
 use Rattle.walk.specs.Frames.{all_frames}
 use Rattle.receive.specs.Reading.{or_else, fich_answer}
 use Rattle.entries.specs.declared.bounded.BoundedList.{BoundedList}
-use Rattle.entries.specs.declared.entry.Line.{Line}
-use Rattle.entries.specs.declared.entry.Line.TheVariants.{Accepted, Refused}
+use Rattle.entries.specs.Entries.{Line, by_line}
 use Rattle.entries.specs.Lists.{capacity, listed}
-use Rattle.entries.specs.Lines.{accepted, refused, merged, line_places, Spaced}
+use Rattle.entries.specs.Lines.{accepted, refused, merged, places, Spaced}
 
 -- how many entries a list can still take
 abbrev pub room : {X : Type 0} → BoundedList X → ℕ
@@ -21,8 +20,7 @@ room list = capacity list - length (listed list)
 
 -- the line of a frame
 abbrev pub line_of : ℕ → Bool → Result Fich Fault → Line
-line_of place missed (Ok fich) = Accepted record { place = place; missed = missed; fich = fich }
-line_of place missed (Err fault) = Refused record { place = place; missed = missed; fault = fault }
+line_of place missed outcome = record { place = place; missed = missed; outcome = outcome }
 
 -- what the readings of a frame say, with work memory of the right sizes
 abbrev pub frame_line : {S R T : Type 0} (μ : Meaning S R T) (m : S) → Seen R → Line
@@ -32,17 +30,26 @@ frame_line μ m f = line_of f.place f.missed (fich_answer μ m f.readings 32 180
 abbrev pub recorded : {S R T : Type 0} (μ : Meaning S R T) (m : S) → List R → List Line
 recorded μ m readings = map (frame_line μ m) (all_frames μ m readings)
 
--- the lines up to the first that finds its list full, where there is room for so many accepted and so many refused frames
+-- where there is room for so many accepted and so many refused frames: the list that a line goes to is full
+abbrev pub no_room : ℕ → ℕ → Line → Bool
+no_room a r = by_line (λ _. a == 0) (λ _. r == 0)
+
+-- the room that a line leaves for accepted frames, and for refused ones
+abbrev pub accepted_room : ℕ → Line → ℕ
+accepted_room a = by_line (λ _. a - 1) (λ _. a)
+
+abbrev pub refused_room : ℕ → Line → ℕ
+refused_room r = by_line (λ _. r) (λ _. r - 1)
+
+-- the lines up to the first that finds its list full
 unfoldable pub fitting : ℕ → ℕ → List Line → List Line
 fitting a r [] = []
-fitting a r (Accepted entry ∷ lines) = cond (a == 0) [] (Accepted entry ∷ fitting (a - 1) r lines)
-fitting a r (Refused entry ∷ lines) = cond (r == 0) [] (Refused entry ∷ fitting a (r - 1) lines)
+fitting a r (line ∷ lines) = cond (no_room a r line) [] (line ∷ fitting (accepted_room a line) (refused_room r line) lines)
 
 -- whether there is such a line
 unfoldable pub full_fault : ℕ → ℕ → List Line → Option Fault
 full_fault a r [] = None
-full_fault a r (Accepted entry ∷ lines) = cond (a == 0) (Some ListFull) (full_fault (a - 1) r lines)
-full_fault a r (Refused entry ∷ lines) = cond (r == 0) (Some ListFull) (full_fault a (r - 1) lines)
+full_fault a r (line ∷ lines) = cond (no_room a r line) (Some ListFull) (full_fault (accepted_room a line) (refused_room r line) lines)
 
 -- the lines for which an index makes entries: none where the work memory has a wrong size
 abbrev pub kept_lines : ℕ → ℕ → ℕ → ℕ → List Line → List Line
@@ -54,8 +61,7 @@ index_fault totals numbers a r lines = or_else (size_fault 480 totals numbers) (
 
 -- the list that a line goes to is full with the entries of other lines
 abbrev pub NoRoomFor : ℕ → ℕ → List Line → Line → Type 0
-NoRoomFor a r kept (Accepted entry) = length (accepted kept) ≡ a
-NoRoomFor a r kept (Refused entry) = length (refused kept) ≡ r
+NoRoomFor a r kept line = by_line (λ _. length (accepted kept)) (λ _. length (refused kept)) line ≡ by_line (λ _. a) (λ _. r) line
 
 -- a line that finds no room, right after those that are kept
 pub record LeftOut (a r : ℕ) (lines kept : List Line) : Type 0 where
@@ -67,7 +73,7 @@ pub record LeftOut (a r : ℕ) (lines kept : List Line) : Type 0 where
 -- of the lines of a recording, those kept are all of them, or all up to the first that finds its list full;
 -- their entries, taken from the two lists by place, are those lines again, so that nothing is lost and nothing comes twice
 pub record Indexed (a r : ℕ) (lines : List Line) : Type 0 where
-  pub spaced : Spaced 480 0 (line_places lines)
+  pub spaced : Spaced 480 0 (places lines)
   pub accepted_fit : length (accepted (fitting a r lines)) ≤ a
   pub refused_fit : length (refused (fitting a r lines)) ≤ r
   pub all_kept : full_fault a r lines ≡ None → fitting a r lines ≡ lines

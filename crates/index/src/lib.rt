@@ -1,18 +1,15 @@
 //! Every frame of a recording, accepted or refused.
 #![tactic(auto)]
 
-ghost use Rattle.std.specs.Prelude.{◌≡◌, ◌++◌, length, None};
+ghost use Rattle.std.specs.Prelude.{◌≡◌, ◌∷◌, ◌++◌, [], length};
 ghost use Rattle.fault.specs.Faults.{refused_or};
-ghost use Rattle.trellis.specs.Answers.{size_fault};
 ghost use Rattle.entries.specs.Lines.{accepted, refused};
-ghost use Rattle.entries.specs.Lists.{listed, capacity};
-ghost use Rattle.index.specs.Noting.{note_fault, frames_with, faults_with};
+ghost use Rattle.entries.specs.Lists.{listed, SameSlots};
 ghost use Rattle.index.specs.Index.{room, recorded, fitting, full_fault, kept_lines, index_fault, Indexed};
 
 use entries::bounded::BoundedList;
-use entries::entry::{FaultEntry, FrameEntry};
+use entries::entry::{Entry, FaultEntry, FrameEntry, Line};
 use fault::Fault;
-use fields::fich::Fich;
 use layout::FRAME_PLACES;
 use measure::MutedMarks;
 use receive::fich::read_fich_marks;
@@ -21,79 +18,33 @@ use walk::Walk;
 
 /// Puts a frame into its list: what was read of it, or why it was refused.
 fn note(
-    place: usize,
-    missed: bool,
-    outcome: Result<Fich, Fault>,
+    line: Line,
     frames: &mut BoundedList<FrameEntry>,
     faults: &mut BoundedList<FaultEntry>,
 ) -> Result<(), Fault>
-    ensures value { result ≡ refused_or (note_fault outcome frames.old faults.old) tt }
-    ensures frames { listed frames.new ≡ frames_with place missed outcome frames.old }
-    ensures faults { listed faults.new ≡ faults_with place missed outcome faults.old }
-    ensures frame_room { capacity frames.new ≡ capacity frames.old }
-    ensures fault_room { capacity faults.new ≡ capacity faults.old }
-    ensures frame_slots { frames.new.slots.ghost_name ≡ frames.old.slots.ghost_name }
-    ensures fault_slots { faults.new.slots.ghost_name ≡ faults.old.slots.ghost_name }
+    ensures value { result ≡ refused_or (full_fault (room frames.old) (room faults.old) (line ∷ [])) tt }
+    ensures frames { listed frames.new ≡ listed frames.old ++ accepted (fitting (room frames.old) (room faults.old) (line ∷ [])) }
+    ensures faults { listed faults.new ≡ listed faults.old ++ refused (fitting (room frames.old) (room faults.old) (line ∷ [])) }
+    ensures frame_slots { SameSlots frames.old frames.new }
+    ensures fault_slots { SameSlots faults.old faults.new }
 {
+    let Entry {
+        place,
+        missed,
+        outcome,
+    } = line;
     match outcome {
-        Ok(fich) => frames.push(FrameEntry {
+        Ok(fich) => frames.push(Entry {
             place,
             missed,
-            fich,
+            outcome: fich,
         }),
-        Err(fault) => faults.push(FaultEntry {
+        Err(fault) => faults.push(Entry {
             place,
             missed,
-            fault,
+            outcome: fault,
         }),
     }
-}
-
-/// Walks over a recording and notes every frame, with work memory of the right sizes.
-fn fill<M: MutedMarks>(
-    m: &M,
-    readings: &[u8],
-    totals: &mut [u16],
-    numbers: &mut [u16],
-    frames: &mut BoundedList<FrameEntry>,
-    faults: &mut BoundedList<FaultEntry>,
-) -> Result<(), Fault>
-    requires { size_fault 480 (length totals.old) (length numbers.old) ≡ None }
-    ensures value { result ≡ refused_or (full_fault (room frames.old) (room faults.old) (recorded M.Measure.means m.now readings.now)) tt }
-    ensures frames { listed frames.new ≡ listed frames.old ++ accepted (fitting (room frames.old) (room faults.old) (recorded M.Measure.means m.now readings.now)) }
-    ensures faults { listed faults.new ≡ listed faults.old ++ refused (fitting (room frames.old) (room faults.old) (recorded M.Measure.means m.now readings.now)) }
-    ensures frame_room { capacity frames.new ≡ capacity frames.old }
-    ensures fault_room { capacity faults.new ≡ capacity faults.old }
-    ensures frame_slots { frames.new.slots.ghost_name ≡ frames.old.slots.ghost_name }
-    ensures fault_slots { faults.new.slots.ghost_name ≡ faults.old.slots.ghost_name }
-{
-    let mut walk = Walk::new(readings);
-    while let Some(frame) = walk.next(m) {
-        let outcome = read_fich_marks(m, frame.readings, totals, numbers);
-        note(frame.place, frame.missed, outcome, frames, faults)?;
-    }
-    Ok(())
-}
-
-fn fill_checked<M: MutedMarks>(
-    m: &M,
-    readings: &[u8],
-    totals: &mut [u16],
-    numbers: &mut [u16],
-    frames: &mut BoundedList<FrameEntry>,
-    faults: &mut BoundedList<FaultEntry>,
-) -> Result<(), Fault>
-    ensures value { result ≡ refused_or (index_fault (length totals.old) (length numbers.old) (room frames.old) (room faults.old) (recorded M.Measure.means m.now readings.now)) tt }
-    ensures frames { listed frames.new ≡ listed frames.old ++ accepted (kept_lines (length totals.old) (length numbers.old) (room frames.old) (room faults.old) (recorded M.Measure.means m.now readings.now)) }
-    ensures faults { listed faults.new ≡ listed faults.old ++ refused (kept_lines (length totals.old) (length numbers.old) (room frames.old) (room faults.old) (recorded M.Measure.means m.now readings.now)) }
-    ensures law { Indexed (room frames.old) (room faults.old) (recorded M.Measure.means m.now readings.now) }
-    ensures frame_room { capacity frames.new ≡ capacity frames.old }
-    ensures fault_room { capacity faults.new ≡ capacity faults.old }
-    ensures frame_slots { frames.new.slots.ghost_name ≡ frames.old.slots.ghost_name }
-    ensures fault_slots { faults.new.slots.ghost_name ≡ faults.old.slots.ghost_name }
-{
-    check_sizes(FRAME_PLACES, totals.len(), numbers.len())?;
-    fill(m, readings, totals, numbers, frames, faults)
 }
 
 /// Notes every frame of a recording of marks, in order: a frame whose FICH is read in `frames`, any other in `faults`.
@@ -110,10 +61,17 @@ pub fn index<M: MutedMarks>(
     ensures frames { listed frames.new ≡ listed frames.old ++ accepted (kept_lines (length totals.old) (length numbers.old) (room frames.old) (room faults.old) (recorded M.Measure.means m.now readings.now)) }
     ensures faults { listed faults.new ≡ listed faults.old ++ refused (kept_lines (length totals.old) (length numbers.old) (room frames.old) (room faults.old) (recorded M.Measure.means m.now readings.now)) }
     ensures law { Indexed (room frames.old) (room faults.old) (recorded M.Measure.means m.now readings.now) }
-    ensures frame_room { capacity frames.new ≡ capacity frames.old }
-    ensures fault_room { capacity faults.new ≡ capacity faults.old }
-    ensures frame_slots { frames.new.slots.ghost_name ≡ frames.old.slots.ghost_name }
-    ensures fault_slots { faults.new.slots.ghost_name ≡ faults.old.slots.ghost_name }
+    ensures frame_slots { SameSlots frames.old frames.new }
+    ensures fault_slots { SameSlots faults.old faults.new }
 {
-    fill_checked(m, readings, totals, numbers, frames, faults)
+    check_sizes(FRAME_PLACES, totals.len(), numbers.len())?;
+    for frame in Walk::new(m, readings) {
+        let line = Line {
+            place: frame.place,
+            missed: frame.missed,
+            outcome: read_fich_marks(m, frame.readings, totals, numbers),
+        };
+        note(line, frames, faults)?;
+    }
+    Ok(())
 }

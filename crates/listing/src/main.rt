@@ -4,7 +4,7 @@
 
 use anyhow::anyhow;
 use entries::bounded::BoundedList;
-use entries::entry::{FaultEntry, FrameEntry};
+use entries::entry::{Entry, FaultEntry, FrameEntry};
 use entries::merge;
 use fault::Fault;
 use fields::fich::{CallMode, DataType, Fich, FrameKind, Routing};
@@ -20,17 +20,18 @@ const READINGS: usize = 57_600;
 /// How many frames each of the two lists takes.
 const LISTED: usize = 120;
 
-/// Work memory of a reading call.
+/// How many totals the work memory of a reading call has.
 const TOTALS: usize = 32;
 
+/// How many numbers it has.
 const NUMBERS: usize = 180;
 
 /// What a slot holds before its entry is there.
 fn no_frame() -> FrameEntry {
-    FrameEntry {
+    Entry {
         place: 0,
         missed: false,
-        fich: Fich {
+        outcome: Fich {
             kind: FrameKind::Header,
             call_mode: CallMode::Group,
             block_number: 0,
@@ -49,10 +50,10 @@ fn no_frame() -> FrameEntry {
 }
 
 fn no_fault() -> FaultEntry {
-    FaultEntry {
+    Entry {
         place: 0,
         missed: false,
-        fault: Fault::ListFull,
+        outcome: Fault::ListFull,
     }
 }
 
@@ -71,8 +72,7 @@ fn print_lines(
     frames: &[FrameEntry],
     faults: &[FaultEntry],
 ) -> anyhow::Result<()> {
-    let mut lines = merge::lines(frames, faults);
-    while let Some(line) = lines.next() {
+    for line in merge::lines(frames, faults) {
         println!(rt; "{line}")?;
     }
     let refused = faults.len();
@@ -95,23 +95,20 @@ fn reported(heap: Global, outcome: Result<(), Fault>) -> anyhow::Result<()> {
 
 /// Prints a line for each frame of the readings, also of those before a list was full.
 fn list(rt: &HostRuntime, readings: &[u8]) -> anyhow::Result<()> {
-    let heap = rt.alloc();
-    let mut totals = vec![in heap; 0u16; TOTALS]?;
-    let mut numbers = vec![in heap; 0u16; NUMBERS]?;
-    let mut frame_slots = vec![in heap; no_frame(); LISTED]?;
-    let mut fault_slots = vec![in heap; no_fault(); LISTED]?;
-    let mut frames = BoundedList::new(frame_slots.as_mut_slice());
-    let mut faults = BoundedList::new(fault_slots.as_mut_slice());
+    let mut frame_slots = [no_frame(); LISTED];
+    let mut fault_slots = [no_fault(); LISTED];
+    let mut frames = BoundedList::new(&mut frame_slots);
+    let mut faults = BoundedList::new(&mut fault_slots);
     let outcome = index(
         &Marks,
         readings,
-        totals.as_mut_slice(),
-        numbers.as_mut_slice(),
+        &mut [0; TOTALS],
+        &mut [0; NUMBERS],
         &mut frames,
         &mut faults,
     );
     print_lines(rt, frames.entries(), faults.entries())?;
-    reported(heap, outcome)
+    reported(rt.alloc(), outcome)
 }
 
 fn run(rt: &HostRuntime) -> anyhow::Result<()> {

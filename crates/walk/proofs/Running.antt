@@ -1,10 +1,14 @@
 -- The frames of a whole recording.
-use Rattle.std.proofs.Common.{◌≡◌, ℕ, zero, suc, ◌+◌, ◌-◌, ◌<◌, ◌≤◌, true, cond, ◌⊎◌, List, [], ◌∷◌, ◌++◌, length, Some, None, Option, sym, refl, ap, ◌∙◌, subst, inl, inr, ⊎_elim, arith}
+use Rattle.std.proofs.Common.{◌≡◌, ℕ, zero, suc, ◌+◌, ◌-◌, ◌*◌, ◌/◌, ◌<◌, ◌≤◌, true, cond, ◌⊎◌, List, [], ◌∷◌, ◌++◌, length, Some, None, Option, sym, refl, ap, ◌∙◌, subst, inl, inr, ⊎_elim, arith}
 use Rattle.std.proofs.lemmas.Bool.{cases_Bool, cases_lt, cond-true, cond-false}
 use Rattle.measure.specs.Meaning.{Meaning}
 use Rattle.walk.specs.Sync.{Starts}
-use Rattle.walk.specs.Walks.{Position, Seen, start, frame_taken, position_after}
-use Rattle.walk.specs.Frames.{then_more, Inside, NoFourMissed, frames_from, enough, frames_after, all_frames, Hands, Ends, Takes, InOrder, Runs}
+use Rattle.std.specs.Prelude.{⊤}
+use Rattle.std.specs.Iterator.{YieldsFirstBy, item_count, MakesProgress}
+use Rattle.walk.specs.declared.Walk.{Walk}
+use Rattle.walk.specs.declared.Frame.{Frame}
+use Rattle.walk.specs.Walks.{Position, Seen, here, as_seen, seen, start, frame_taken, position_after}
+use Rattle.walk.specs.Frames.{then_more, Inside, NoFourMissed, frames_from, enough, frames_after, all_frames, to_come, Hands, Ends, Takes, InOrder, Runs}
 use Rattle.walk.proofs.Stepping.{takes}
 
 -- no frame is missed after three in succession, n of which came before
@@ -147,9 +151,46 @@ module _ {S R T : Type 0} (μ : Meaning S R T) (m : S) (readings : List R) where
       subst P (sym p.1) (λ t. (h.missed t).2, subst (λ k. Counted k rest) next-misses (counted n (next q))))
       (by_option (step q))
 
+  -- frames from a position on take 480 readings each
+  room : (n : ℕ) (q : Position) → length (frames n q) * 480 ≤ length readings - q.place
+  unfolding frames_from
+  room zero q = omega arith
+  room (suc n) q =
+      let rest = frames n (next q) in
+      let P : Option (Seen R) → Type 0 = λ o. length (then_more o rest) * 480 ≤ length readings - q.place in
+      ⊎_elim
+      (λ e. subst P (sym e) (omega arith))
+      (λ p.
+      let h = hands q p.0 p.1 in
+      let more = room n (next q) in
+      subst P (sym p.1) (omega (arith, h.past, h.onward, h.sound.whole)))
+      (by_option (step q))
+
+  pub few_come : (q : Position) (rest : ℕ) → rest ≡ length readings - q.place → length (frames_after μ m readings q) ≤ rest / 480
+  few_come q rest e = let r = room (enough readings q) q in omega arith
+
   pub runs : Runs μ m readings (all_frames μ m readings)
   runs = record {
     order = in_order (enough readings start) start;
     few_missed = λ before after a b c d e. no_four (all_frames μ m readings) 0 (counted (enough readings start) start) before after a b c d e;
     none_lost = λ place w s. none_lost (enough readings start) start place (omega arith) (omega arith) w s;
   }
+
+-- a step of a walk, said of the frames that are still to come
+module _ {S R T : Type 0} (μ : Meaning S R T) where
+  pub went_on : (w v : Walk S R T) (f : Frame R) → Some (as_seen f) ≡ frame_taken μ w.measure.now w.readings.now (here w)
+      → here v ≡ position_after μ w.measure.now w.readings.now (here w) → v.readings ≡ w.readings → v.measure ≡ w.measure
+      → YieldsFirstBy as_seen (to_come μ) w (Some f) v × MakesProgress {A = Frame R} (λ _. ⊤) (item_count (to_come μ)) w (Some f) v
+  went_on w v f value after readings measure =
+      let same : to_come μ v ≡ frames_after μ w.measure.now w.readings.now (here v) =
+      ap (λ rs. frames_after μ v.measure.now rs.now (here v)) readings ∙ ap (λ m. frames_after μ m.now w.readings.now (here v)) measure in
+      let on = frames_go_on μ w.measure.now w.readings.now (here w) (here v) (as_seen f) value after in
+      let steps : to_come μ w ≡ as_seen f ∷ to_come μ v = on ∙ ap (λ fs. as_seen f ∷ fs) (sym same) in
+      (steps, record { on = λ _. (tt, tt, let n = ap length steps in omega arith); keeps = tt; rests = λ _. tt })
+
+  pub ended : (w : Walk S R T) (r : Option (Frame R)) → r ≡ None → seen r ≡ frame_taken μ w.measure.now w.readings.now (here w)
+      → YieldsFirstBy as_seen (to_come μ) w r w × MakesProgress {A = Frame R} (λ _. ⊤) (item_count (to_come μ)) w r w
+  ended w r e value =
+      let none = frames_end μ w.measure.now w.readings.now (here w) (sym (ap seen e) ∙ value) in
+      subst (λ o. YieldsFirstBy as_seen (to_come μ) w o w × MakesProgress {A = Frame R} (λ _. ⊤) (item_count (to_come μ)) w o w) (sym e)
+      ((none, none), record { on = λ _. tt; keeps = tt; rests = λ _. tt })

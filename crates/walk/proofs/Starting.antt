@@ -1,8 +1,11 @@
 -- A sync word starts where the test says so.
-use Rattle.std.proofs.Common.{◌≡◌, ℕ, zero, suc, ◌+◌, ◌-◌, ◌<◌, ◌≤◌, min, Bool, true, false, cond, ◌&&◌, eqb, List, [], ◌∷◌, length, get_or, take, drop, Some, None, sym, refl, ap, ◌∙◌, ⊎_elim, add-one, arith, length-drop, length-take, length-take-le, get_or-drop, get_or-take}
+use Rattle.std.proofs.Common.{◌≡◌, ℕ, zero, suc, ◌+◌, ◌-◌, ◌<◌, ◌≤◌, Bool, true, false, ◌&&◌, eqb, List, [], ◌∷◌, map, length, get_or, take, drop, Some, None, Option, sym, refl, ap, ◌∙◌, subst, ⊎_elim, arith}
+use Rattle.std.specs.Prelude.{MatchOption, MatchBool, HoldsAt}
+use Rattle.std.specs.List.{AllWithin, enumerate_from}
+use Rattle.std.proofs.lemmas.List.FromFn.{length-enumerate_from, get_or-enumerate_from}
 use lib.ListN.{length-map}
 use Rattle.std.proofs.lemmas.List.{get_or-map, ext_get_or}
-use Rattle.std.proofs.lemmas.Bool.{eq-eqb, eqb-true, and_parts, and_from, cases_Bool, both_ways, cond-true, cond-false}
+use Rattle.std.proofs.lemmas.Bool.{eq-eqb, eqb-true, and_parts, and_from, cases_Bool, cases_eq, both_ways, cond-true, cond-false}
 use Rattle.std.proofs.lemmas.Bool.Decides.{Decides-below_and, Decides-eqb}
 use Rattle.bits.specs.declared.Dibit.{Dibit}
 use Rattle.bits.specs.declared.Dibit.TheVariants.{D00, D01, D10, D11}
@@ -69,56 +72,66 @@ module _ {S R T : Type 0} (μ : Meaning S R T) (m : S) (readings : List R) where
   pub not_synced : (place : ℕ) → (Starts μ m readings place → ⊥) → false ≡ synced μ m readings place
   not_synced place never = ⊎_elim (λ e. absurd (never (synced_true place e))) (λ e. sym e) (cases_Bool (synced μ m readings place))
 
-  length-plain : (place : ℕ) → length (plain_from μ m readings place) ≡ min 20 (length readings - place)
-  length-plain place = length-map (take 20 (drop place readings)) (μ.plain m) ∙ length-take 20 (drop place readings) ∙ ap (min 20) (length-drop place readings)
+  -- the words of a recording, dibit by dibit: place k has the sync word's dibit k, or it has another
+  abbrev pub Alike : ℕ × R → Type 0
+  Alike p = μ.plain m p.1 ≡ sync_dibit p.0
 
-  -- fewer readings than a sync word has
-  pub short_of_sync : (place : ℕ) → length readings < place + 20 → false ≡ synced μ m readings place
-  short_of_sync place h = not_synced place (λ e. let n = ap length e in let l = length-plain place in omega (arith, length_sync))
+  abbrev pub Unlike : ℕ × R → Type 0
+  Unlike p = μ.plain m p.1 ≡ sync_dibit p.0 → ⊥
 
-  plain_at : (place k : ℕ) (y : R) → place + 20 ≤ length readings → k < 20 → y ≡ get_or readings (place + k) y
-      → get_or (plain_from μ m readings place) k D00 ≡ μ.plain m y
-  plain_at place k y long h e =
-      let part = take 20 (drop place readings) in
-      get_or-map (μ.plain m) part k y D00 (omega (arith, length-take-le 20 (drop place readings) (omega (arith, length-drop place readings))))
-      ∙ ap (μ.plain m) (get_or-take 20 (drop place readings) k y h ∙ get_or-drop place readings k y ∙ sym e)
+  at_word : (P : ℕ × R → Type 0) (ws : List R) (w : R) (k : ℕ) → k < length ws → HoldsAt P (enumerate_from 0 ws) k → P (k, get_or ws k w)
+  at_word P ws w k h holds =
+      let none : 0 + k ≡ k = omega arith in
+      subst (λ i. P (i, get_or ws k w)) none (subst P (get_or-enumerate_from 0 ws k (0, w) h) (holds (0, w)))
 
-  -- one reading, of plain dibit p, that is not as the sync word has it, and one that is
-  module _ (place k : ℕ) (y : R) (p d : Dibit) (long : place + 20 ≤ length readings) (h : k < 20) (e : y ≡ get_or readings (place + k) y)
-      (plain : p ≡ μ.plain m y) (word : d ≡ sync_dibit k) where
-    pub unlike_sync : (p ≡ d → ⊥) → false ≡ synced μ m readings place
-    unlike_sync other =
-        not_synced place (λ s. other (plain ∙ sym (plain_at place k y long h e) ∙ ap (λ ds. get_or ds k D00) s ∙ sym (word ∙ sync_dibit_is k h)))
+  -- what the comparison of all dibits of a word says
+  pub compared : (place : ℕ) (r : Bool) (ws : List R) → ws ≡ take 20 (drop place readings) → length ws ≡ 20
+      → MatchBool r (AllWithin Alike (enumerate_from 0 ws) 0 (length (enumerate_from 0 ws)))
+      ((k : ℕ) × (k < length (enumerate_from 0 ws)) × HoldsAt Unlike (enumerate_from 0 ws) k)
+      → r ≡ synced μ m readings place
+  unfolding synced
+  compared place r [] part n h = absurd (omega arith)
+  compared place true (w ∷ ws) part n h =
+      let l = length-enumerate_from 0 (w ∷ ws) in
+      let s = length-map (w ∷ ws) (μ.plain m) in
+      let same : map (μ.plain m) (w ∷ ws) ≡ dibits_of sync_word =
+      ext_get_or D00 (map (μ.plain m) (w ∷ ws)) (dibits_of sync_word) (omega (arith, length_sync))
+      (λ k b. get_or-map (μ.plain m) (w ∷ ws) k w D00 (omega arith)
+      ∙ at_word Alike (w ∷ ws) w k (omega arith) (λ d. h k d (omega arith) (omega arith))
+      ∙ sync_dibit_is k (omega arith)) in
+      sym (starts-synced place (ap (map (μ.plain m)) (sym part) ∙ same))
+  compared place false (w ∷ ws) part n h =
+      let l = length-enumerate_from 0 (w ∷ ws) in
+      let k = h.0 in
+      let below = h.1 in
+      not_synced place (λ s. at_word Unlike (w ∷ ws) w k (omega arith) h.2
+      (sym (get_or-map (μ.plain m) (w ∷ ws) k w D00 (omega arith))
+      ∙ ap (λ rs. get_or (map (μ.plain m) rs) k D00) part
+      ∙ ap (λ ds. get_or ds k D00) s
+      ∙ sym (sync_dibit_is k (omega arith))))
 
-    pub like_sync : p ≡ d → get_or (plain_from μ m readings place) k D00 ≡ get_or (dibits_of sync_word) k D00
-    like_sync same = plain_at place k y long h e ∙ sym plain ∙ same ∙ word ∙ sync_dibit_is k h
+  -- the first of n places where a sync word starts
+  first_is : (n from : ℕ) (r : Option ℕ)
+      → MatchOption r ((k : ℕ) → from ≤ k → k < from + n → synced μ m readings k ≡ false)
+      (λ i. (from ≤ i) × (i < from + n) × (synced μ m readings i ≡ true) × ((k : ℕ) → from ≤ k → k < i → synced μ m readings k ≡ false))
+      → r ≡ first_of μ m readings n from
+  unfolding first_of
+  first_is zero from None h = refl
+  first_is zero from (Some i) h = absurd (omega arith)
+  first_is (suc n) from None h =
+      first_is n (suc from) None (λ k a b. h k (omega arith) (omega arith)) ∙ sym (cond-false (synced μ m readings from) _ _ (h from (omega arith) (omega arith)))
+  first_is (suc n) from (Some i) h =
+      ⊎_elim
+      (λ e. ap Some e ∙ sym (cond-true (synced μ m readings from) _ _ (ap (synced μ m readings) (sym e) ∙ h.2)))
+      (λ d. first_is n (suc from) (Some i) (omega (arith, h.0), omega (arith, h.1), h.2, λ k a b. h.3 k (omega arith) b)
+      ∙ sym (cond-false (synced μ m readings from) _ _ (h.3 from (omega arith) (omega (arith, h.0)))))
+      (cases_eq i from)
 
-  pub all_like_sync : (place : ℕ) → place + 20 ≤ length readings
-      → ((i : ℕ) → i < 20 → get_or (plain_from μ m readings place) i D00 ≡ get_or (dibits_of sync_word) i D00) → true ≡ synced μ m readings place
-  all_like_sync place long each =
-      let n = length-plain place in
-      sym (starts-synced place (ext_get_or D00 (plain_from μ m readings place) (dibits_of sync_word) (omega (arith, length_sync)) (λ i h. each i (omega arith))))
-
-  -- the first sync word from a place on, and a hunt for it that has come to a place
-  module _ (from place : ℕ) (come : first_sync μ m readings place ≡ first_sync μ m readings from) where
-    some_left : place < frame_places (length readings)
-        → first_sync μ m readings place ≡ cond (synced μ m readings place) (Some place) (first_sync μ m readings (suc place))
-    unfolding first_of
-    some_left h =
-        let n : frame_places (length readings) - place ≡ suc (frame_places (length readings) - suc place) = omega arith in
-        ap (λ k. first_of μ m readings k place) n
-
-    pub hunt_here : (r : Bool) → place < frame_places (length readings) → r ≡ synced μ m readings place → r ≡ true
-        → Some place ≡ first_sync μ m readings from
-    hunt_here r h s e = sym (some_left h ∙ cond-true (synced μ m readings place) _ _ (sym s ∙ e)) ∙ come
-
-    pub hunt_on : (r : Bool) → place < frame_places (length readings) → r ≡ synced μ m readings place → r ≡ false
-        → first_sync μ m readings (place + 1) ≡ first_sync μ m readings from
-    hunt_on r h s e =
-        ap (first_sync μ m readings) (add-one place) ∙ sym (some_left h ∙ cond-false (synced μ m readings place) _ _ (sym s ∙ e)) ∙ come
-
-    pub hunt_end : frame_places (length readings) ≤ place → None ≡ first_sync μ m readings from
-    unfolding first_of
-    hunt_end h =
-        let n : frame_places (length readings) - place ≡ 0 = omega arith in
-        sym (ap (λ k. first_of μ m readings k place) n) ∙ come
+  -- what a hunt that ends before a place finds
+  pub hunted : (from end : ℕ) (r : Option ℕ) → end ≡ frame_places (length readings)
+      → MatchOption r ((k : ℕ) → from ≤ k → k < end → synced μ m readings k ≡ false)
+      (λ i. (from ≤ i) × (i < end) × (synced μ m readings i ≡ true) × ((k : ℕ) → from ≤ k → k < i → synced μ m readings k ≡ false))
+      → r ≡ first_sync μ m readings from
+  hunted from end None e h = first_is (frame_places (length readings) - from) from None (λ k a b. h k a (omega arith))
+  hunted from end (Some i) e h =
+      first_is (frame_places (length readings) - from) from (Some i) (h.0, omega (arith, h.0, h.1), h.2, h.3)

@@ -1,5 +1,5 @@
 -- One step of a walk keeps its law.
-use Rattle.std.proofs.Common.{◌≡◌, ℕ, zero, suc, ◌+◌, ◌-◌, ◌<◌, ◌≤◌, Bool, true, false, ltb, leb, List, length, Some, None, Option, sym, refl, ap, ◌∙◌, subst, ⊎_elim, arith}
+use Rattle.std.proofs.Common.{◌≡◌, ℕ, zero, suc, ◌+◌, ◌-◌, ◌<◌, ◌≤◌, Bool, true, false, ltb, leb, List, length, take, drop, Some, None, Option, sym, refl, ap, ◌∙◌, subst, ⊎_elim, arith}
 use Rattle.std.proofs.lemmas.Bool.{cases_Bool, cases_eq, both_ways, cond-true, cond-false, cond_both, leb-true, leb-false, ltb-true, ltb-false}
 use Rattle.measure.specs.Meaning.{Meaning}
 use Rattle.walk.specs.Sync.{synced, frame_places, first_of, first_sync}
@@ -7,11 +7,13 @@ use Rattle.walk.specs.Walks.{Position, Seen, found, past, shown, taken, frame_ta
 use Rattle.walk.specs.Frames.{Takes}
 use Rattle.walk.proofs.Starting.{synced_true, synced_false}
 
-pub never : {X : Type 0} → true ≡ false → X
-never e = absurd (both_ways true e refl)
+-- a frame that lends a part of the recording
+abbrev pub lending : {R : Type 0} → ℕ → Bool → List R → Option (Seen R)
+lending place missed part = Some record { place = place; missed = missed; readings = part }
 
-pub ever : {X : Type 0} → false ≡ true → X
-ever e = absurd (both_ways false refl e)
+pub part_shown : {R : Type 0} (place : ℕ) (missed : Bool) (readings part : List R) → part ≡ take 480 (drop place readings)
+    → lending place missed part ≡ shown readings (Some (place, missed))
+part_shown place missed readings part e = ap (lending place missed) e
 
 module _ {S R T : Type 0} (μ : Meaning S R T) (m : S) (readings : List R) where
   -- where the first sync word of n places is
@@ -75,27 +77,27 @@ module _ {S R T : Type 0} (μ : Meaning S R T) (m : S) (readings : List R) where
           whole = omega (arith, f.below);
           part = refl;
           hit = λ _. synced_true μ m readings place f.here;
-          missed = λ t. ever t;
+          missed = λ t. cc;
         };
         onward = f.onward;
         past = refl;
         locks = refl;
-        counts = λ t. ever t;
+        counts = λ t. cc;
         resets = λ _. refl;
-        missed = λ t. ever t;
+        missed = λ t. cc;
         stays = λ l h. absurd (free l h);
         none_passed = λ p h l. synced_false μ m readings p (f.before p h l);
       }
 
   hits : (q : Position) → q.place + 480 ≤ length readings → synced μ m readings q.place ≡ true → Step q (Some (q.place, false))
   hits q whole here = record {
-    sound = record { whole = whole; part = refl; hit = λ _. synced_true μ m readings q.place here; missed = λ t. ever t };
+    sound = record { whole = whole; part = refl; hit = λ _. synced_true μ m readings q.place here; missed = λ t. cc };
     onward = omega arith;
     past = refl;
     locks = refl;
-    counts = λ t. ever t;
+    counts = λ t. cc;
     resets = λ _. refl;
-    missed = λ t. ever t;
+    missed = λ t. cc;
     stays = λ _ _. refl;
     none_passed = λ p h l. absurd (omega arith);
   }
@@ -103,12 +105,12 @@ module _ {S R T : Type 0} (μ : Meaning S R T) (m : S) (readings : List R) where
   misses : (q : Position) → q.locked ≡ true → q.misses < 3 → q.place + 480 ≤ length readings → synced μ m readings q.place ≡ false
       → Step q (Some (q.place, true))
   misses q locked few whole here = record {
-    sound = record { whole = whole; part = refl; hit = λ f. never f; missed = λ _. synced_false μ m readings q.place here };
+    sound = record { whole = whole; part = refl; hit = λ f. cc; missed = λ _. synced_false μ m readings q.place here };
     onward = omega arith;
     past = refl;
     locks = refl;
     counts = λ _. refl;
-    resets = λ f. never f;
+    resets = λ f. cc;
     missed = λ _. (refl, locked, few);
     stays = λ _ _. refl;
     none_passed = λ p h l. absurd (omega arith);

@@ -3,7 +3,10 @@
 use Rattle.std.specs.Prelude.{◌≡◌, ℕ, zero, suc, ◌+◌, ◌-◌, ◌<◌, ◌≤◌, true, false, ◌⊎◌, List, [], ◌∷◌, ◌++◌, length, take, drop, Some, None, Option, ◌≢◌}
 use Rattle.measure.specs.Meaning.{Meaning}
 use Rattle.walk.specs.Sync.{Starts}
-use Rattle.walk.specs.Walks.{Position, Seen, start, frame_taken, position_after}
+use Rattle.std.specs.Iterator.{YieldsFirstBy}
+use Rattle.walk.specs.declared.Walk.{Walk}
+use Rattle.walk.specs.declared.Frame.{Frame}
+use Rattle.walk.specs.Walks.{Position, Seen, here, as_seen, seen, start, frame_taken, position_after}
 
 -- a frame and those after it, if there is one
 abbrev pub then_more : {R : Type 0} → Option (Seen R) → List (Seen R) → List (Seen R)
@@ -81,3 +84,18 @@ module _ {S R T : Type 0} (μ : Meaning S R T) (m : S) (readings : List R) where
     pub order : InOrder 0 frames
     pub few_missed : NoFourMissed frames
     pub none_lost : (place : ℕ) → place + 480 ≤ length readings → Starts μ m readings place → Inside place frames
+
+-- the frames that a walk has still to hand out
+abbrev pub to_come : {S R T : Type 0} → Meaning S R T → Walk S R T → List (Seen R)
+to_come μ w = frames_after μ w.measure.now w.readings.now (here w)
+
+-- a call of `next` takes one walk to another
+pub record Advances {S R T : Type 0} (μ : Meaning S R T) (walk : Walk S R T) (answer : Option (Frame R)) (left : Walk S R T) : Type 0 where
+  -- it hands out the first of the frames to come and leaves the others, or says end where none is left
+  pub yields : YieldsFirstBy as_seen (to_come μ) walk answer left
+  pub value : seen answer ≡ frame_taken μ walk.measure.now walk.readings.now (here walk)
+  pub after : here left ≡ position_after μ walk.measure.now walk.readings.now (here walk)
+  pub same : left.readings ≡ walk.readings
+  pub measure : left.measure ≡ walk.measure
+  pub law : Takes μ walk.measure.now walk.readings.now (here walk) (here left) (seen answer)
+  pub run : Runs μ walk.measure.now walk.readings.now (all_frames μ walk.measure.now walk.readings.now)

@@ -1,6 +1,6 @@
 -- One step of a walk over a recording: which frame comes next, and where the walk stands then.
 -- A locked walk goes from frame to frame and bears three missed sync words in succession; else it looks for the next sync word.
-use Rattle.std.specs.Prelude.{ℕ, ◌+◌, Bool, true, false, cond, List, length, take, drop, Some, None, Option, nat_le, nat_lt}
+use Rattle.std.specs.Prelude.{ℕ, ◌+◌, Bool, true, false, cond, List, length, take, drop, Some, None, Option, is_some, unwrap_or, nat_le, nat_lt}
 use Rattle.measure.specs.Meaning.{Meaning}
 use Rattle.walk.specs.declared.Walk.{Walk}
 use Rattle.walk.specs.declared.Frame.{Frame}
@@ -18,12 +18,16 @@ pub record Seen (R : Type 0) : Type 0 where
   pub missed : Bool
   pub readings : List R
 
-abbrev pub here : {R : Type 0} → Walk R → Position
-here w = record { place = w.place; locked = w.locked; misses = w.misses }
+-- a walk is locked once it counts misses
+abbrev pub here : {S R T : Type 0} → Walk S R T → Position
+here w = record { place = w.place; locked = is_some w.misses; misses = unwrap_or w.misses 0 }
+
+abbrev pub as_seen : {R : Type 0} → Frame R → Seen R
+as_seen f = record { place = f.place; missed = f.missed; readings = f.readings.now }
 
 abbrev pub seen : {R : Type 0} → Option (Frame R) → Option (Seen R)
 seen None = None
-seen (Some f) = Some record { place = f.place; missed = f.missed; readings = f.readings.now }
+seen (Some f) = Some (as_seen f)
 
 -- every walk starts here
 abbrev pub start : Position

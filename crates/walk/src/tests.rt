@@ -37,14 +37,14 @@ fn walk(
 ) -> Result<(), Fail> {
     let readings = recording(heap, lead, marks)?;
     assert!(rt; cut <= readings.len());
-    let mut walk = Walk::new(&readings[0..readings.len() - cut]);
+    let mut walk = Walk::new(&Marks, &readings[0..readings.len() - cut]);
     for row in frames {
-        let frame = walk.next(&Marks).ok_or("no more frames")?;
+        let frame = walk.next().ok_or("no more frames")?;
         assert!(rt; frame.place == row.0 && frame.missed == row.1);
         assert!(rt; frame.readings.len() == 480);
     }
-    assert!(rt; walk.next(&Marks).is_none());
-    assert!(rt; walk.next(&Marks).is_none());
+    assert!(rt; walk.next().is_none());
+    assert!(rt; walk.next().is_none());
     Ok(())
 }
 
