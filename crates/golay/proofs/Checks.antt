@@ -13,14 +13,6 @@ use Rattle.golay.proofs.Weights.{ones_number}
 
 -- ---- the register
 
-pub fed_next : (g register : List ℕ) (j d : ℕ) → fed g register (bits_of (suc j) d) ≡ fed g (shifted g register (d / 2 ^ j % 2)) (bits_of j d)
-unfolding fed bits_of
-fed_next g register j d = refl
-
-pub fed_none : (g register : List ℕ) (d : ℕ) → fed g register (bits_of 0 d) ≡ register
-unfolding fed bits_of
-fed_none g register d = refl
-
 -- the top eleven bits of a register that was fed the data are the remainder
 pub register_top : (d n : ℕ) → bits_of 16 n ≡ fed (bits_of 16 aligned) (bits_of 16 0) (bits_of 12 d) → bits_of 11 (n / 32) ≡ remainder generator (bits_of 12 d)
 unfolding bits_of

@@ -8,7 +8,7 @@ ghost use Rattle.bits.specs.Division.{remainder};
 ghost use Rattle.golay.specs.Golay.{generator, code_of, check_of, distance, golay_write, Apart};
 ghost use Rattle.golay.specs.Nearest.{first_near, nearest, Near, Nearest, golay_read, Read, counted, Explains};
 
-use bits::shift_in;
+use bits::shift_in_number;
 use fault::Fault;
 use std::ops::BitXor;
 
@@ -43,11 +43,7 @@ fn remainder_of(data: u16) -> u16
     ensures value { bits_of 11 result ≡ remainder generator (bits_of 12 «data») }
     ensures within { result < 2048 }
 {
-    let mut register = 0;
-    for place in (0..12u32).rev() {
-        register = shift_in(register, (data >> place) % 2 == 1, TAPS);
-    }
-    register >> 5
+    shift_in_number(0, data, 12, TAPS) >> 5
 }
 
 impl BitXor for Half {
