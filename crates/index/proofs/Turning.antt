@@ -4,6 +4,7 @@ use Rattle.std.proofs.lemmas.Bool.Decides.{nat_tests}
 use Rattle.fault.specs.declared.Fault.{Fault}
 use Rattle.fields.specs.declared.fich.Fich.{Fich}
 use Rattle.measure.specs.Meaning.{Meaning}
+use Rattle.trellis.specs.Sizes.{Sizes}
 use Rattle.trellis.specs.Answers.{size_fault}
 use Rattle.walk.specs.Walks.{Seen}
 use Rattle.receive.specs.Reading.{fich_answer}
@@ -14,18 +15,19 @@ use Rattle.entries.specs.Lists.{capacity, listed, SameSlots}
 use Rattle.index.specs.Index.{room, line_of, frame_line, fitting, full_fault}
 use Rattle.index.proofs.Going.{Leads, goes_on, stops}
 
-right_sizes : (totals numbers : ℕ) → size_fault 480 totals numbers ≡ None → (totals ≡ 32) × (numbers ≡ 180)
-right_sizes totals numbers e = (grind (arith, nat_tests), grind (arith, nat_tests))
+right_sizes : (work : Sizes) → size_fault 480 work.totals work.numbers ≡ None → work ≡ record { totals = 32; numbers = 180 }
+right_sizes work e =
+    let totals : work.totals ≡ 32 = grind (arith, nat_tests) in
+    let numbers : work.numbers ≡ 180 = grind (arith, nat_tests) in
+    ap (λ k. record { totals = k; numbers = work.numbers }) totals ∙ ap (λ k. record { totals = 32; numbers = k }) numbers
 
 -- the lines still to come begin with that of the frame that was handed out and read
-pub next_line : {S R T : Type 0} (μ : Meaning S R T) (m : S) (frames rest : List (Seen R)) (f : Seen R) (outcome : Result Fich Fault) (t n totals numbers : ℕ)
-    → frames ≡ f ∷ rest → t ≡ totals → n ≡ numbers → size_fault 480 totals numbers ≡ None → outcome ≡ fich_answer μ m f.readings t n
+pub next_line : {S R T : Type 0} (μ : Meaning S R T) (m : S) (frames rest : List (Seen R)) (f : Seen R) (outcome : Result Fich Fault) (now work : Sizes)
+    → frames ≡ f ∷ rest → now ≡ work → size_fault 480 work.totals work.numbers ≡ None → outcome ≡ fich_answer μ m f.readings now
     → map (frame_line μ m) frames ≡ line_of f.place f.missed outcome ∷ map (frame_line μ m) rest
-next_line μ m frames rest f outcome t n totals numbers e et en fine is =
-    let sized = right_sizes totals numbers fine in
+next_line μ m frames rest f outcome now work e kept fine is =
     ap (map (frame_line μ m)) e
-    ∙ ap (λ o. line_of f.place f.missed o ∷ map (frame_line μ m) rest)
-    (sym (is ∙ ap (λ k. fich_answer μ m f.readings k n) (et ∙ sized.0) ∙ ap (fich_answer μ m f.readings 32) (en ∙ sized.1)))
+    ∙ ap (λ o. line_of f.place f.missed o ∷ map (frame_line μ m) rest) (sym (is ∙ ap (fich_answer μ m f.readings) (kept ∙ right_sizes work fine)))
 
 module _ (frames frames' : BoundedList FrameEntry) (faults faults' : BoundedList FaultEntry) (line : Line)
     (lines rest : List Line) (all_frames : List FrameEntry) (all-faults : List FaultEntry) (fault : Option Fault)

@@ -5,6 +5,7 @@ use Rattle.fault.specs.declared.Fault.TheVariants.{ListFull}
 use Rattle.fault.specs.Faults.{unless}
 use Rattle.fields.specs.declared.fich.Fich.{Fich}
 use Rattle.measure.specs.Meaning.{Meaning}
+use Rattle.trellis.specs.Sizes.{Sizes}
 use Rattle.trellis.specs.Answers.{size_fault}
 use Rattle.walk.specs.Walks.{Seen}
 use Rattle.walk.specs.Frames.{all_frames}
@@ -24,7 +25,7 @@ line_of place missed outcome = record { place = place; missed = missed; outcome 
 
 -- what the readings of a frame say, with work memory of the right sizes
 abbrev pub frame_line : {S R T : Type 0} (μ : Meaning S R T) (m : S) → Seen R → Line
-frame_line μ m f = line_of f.place f.missed (fich_answer μ m f.readings 32 180)
+frame_line μ m f = line_of f.place f.missed (fich_answer μ m f.readings record { totals = 32; numbers = 180 })
 
 -- the lines of a recording, one for each frame that the walk hands out
 abbrev pub recorded : {S R T : Type 0} (μ : Meaning S R T) (m : S) → List R → List Line
@@ -52,12 +53,12 @@ full_fault a r [] = None
 full_fault a r (line ∷ lines) = cond (no_room a r line) (Some ListFull) (full_fault (accepted_room a line) (refused_room r line) lines)
 
 -- the lines for which an index makes entries: none where the work memory has a wrong size
-abbrev pub kept_lines : ℕ → ℕ → ℕ → ℕ → List Line → List Line
-kept_lines totals numbers a r lines = unless (size_fault 480 totals numbers) (fitting a r lines) []
+abbrev pub kept_lines : Sizes → ℕ → ℕ → List Line → List Line
+kept_lines work a r lines = unless (size_fault 480 work.totals work.numbers) (fitting a r lines) []
 
 -- a wrong size of the work memory, or else a full list
-abbrev pub index_fault : ℕ → ℕ → ℕ → ℕ → List Line → Option Fault
-index_fault totals numbers a r lines = or_else (size_fault 480 totals numbers) (full_fault a r lines)
+abbrev pub index_fault : Sizes → ℕ → ℕ → List Line → Option Fault
+index_fault work a r lines = or_else (size_fault 480 work.totals work.numbers) (full_fault a r lines)
 
 -- the list that a line goes to is full with the entries of other lines
 abbrev pub NoRoomFor : ℕ → ℕ → List Line → Line → Type 0

@@ -1,7 +1,7 @@
 //! Every frame of a recording, accepted or refused.
 #![tactic(auto)]
 
-ghost use Rattle.std.specs.Prelude.{◌≡◌, ◌∷◌, ◌++◌, [], length};
+ghost use Rattle.std.specs.Prelude.{◌≡◌, ◌∷◌, ◌++◌, []};
 ghost use Rattle.fault.specs.Faults.{refused_or};
 ghost use Rattle.entries.specs.Lines.{accepted, refused};
 ghost use Rattle.entries.specs.Lists.{listed, SameSlots};
@@ -13,7 +13,7 @@ use fault::Fault;
 use layout::FRAME_PLACES;
 use measure::MutedMarks;
 use receive::fich::read_fich_marks;
-use trellis::search::check_sizes;
+use trellis::work::Work;
 use walk::Walk;
 
 /// Puts a frame into its list: what was read of it, or why it was refused.
@@ -48,28 +48,28 @@ fn note(
 }
 
 /// Notes every frame of a recording of marks, in order: a frame whose FICH is read in `frames`, any other in `faults`.
-/// It stops at the first frame whose list is full. Totals and numbers are work memory.
+/// It stops at the first frame whose list is full.
 pub fn index<M: MutedMarks>(
     m: &M,
     readings: &[u8],
-    totals: &mut [u16],
-    numbers: &mut [u16],
+    work: &mut Work<u16>,
     frames: &mut BoundedList<FrameEntry>,
     faults: &mut BoundedList<FaultEntry>,
 ) -> Result<(), Fault>
-    ensures value { result ≡ refused_or (index_fault (length totals.old) (length numbers.old) (room frames.old) (room faults.old) (recorded M.Measure.means m.now readings.now)) tt }
-    ensures frames { listed frames.new ≡ listed frames.old ++ accepted (kept_lines (length totals.old) (length numbers.old) (room frames.old) (room faults.old) (recorded M.Measure.means m.now readings.now)) }
-    ensures faults { listed faults.new ≡ listed faults.old ++ refused (kept_lines (length totals.old) (length numbers.old) (room frames.old) (room faults.old) (recorded M.Measure.means m.now readings.now)) }
+    ensures value { result ≡ refused_or (index_fault work.old (room frames.old) (room faults.old) (recorded M.Measure.means m.now readings.now)) tt }
+    ensures frames { listed frames.new ≡ listed frames.old ++ accepted (kept_lines work.old (room frames.old) (room faults.old) (recorded M.Measure.means m.now readings.now)) }
+    ensures faults { listed faults.new ≡ listed faults.old ++ refused (kept_lines work.old (room frames.old) (room faults.old) (recorded M.Measure.means m.now readings.now)) }
     ensures law { Indexed (room frames.old) (room faults.old) (recorded M.Measure.means m.now readings.now) }
     ensures frame_slots { SameSlots frames.old frames.new }
     ensures fault_slots { SameSlots faults.old faults.new }
+    ensures kept { work.new ≡ work.old }
 {
-    check_sizes(FRAME_PLACES, totals.len(), numbers.len())?;
+    work.check_sizes(FRAME_PLACES)?;
     for frame in Walk::new(m, readings) {
         let line = Line {
             place: frame.place,
             missed: frame.missed,
-            outcome: read_fich_marks(m, frame.readings, totals, numbers),
+            outcome: read_fich_marks(m, frame.readings, work),
         };
         note(line, frames, faults)?;
     }

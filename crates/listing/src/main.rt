@@ -10,21 +10,15 @@ use fault::Fault;
 use fields::fich::{CallMode, DataType, Fich, FrameKind, Routing};
 use index::index;
 use measure::marks::Marks;
-use std::alloc::Global;
 use std::io::Read;
 use std::process::ExitCode;
+use trellis::work::{NUMBERS, TOTALS, Work};
 
 /// The most readings that a recording has.
 const READINGS: usize = 57_600;
 
 /// How many frames each of the two lists takes.
 const LISTED: usize = 120;
-
-/// How many totals the work memory of a reading call has.
-const TOTALS: usize = 32;
-
-/// How many numbers it has.
-const NUMBERS: usize = 180;
 
 /// What a slot holds before its entry is there.
 fn no_frame() -> FrameEntry {
@@ -81,34 +75,18 @@ fn print_lines(
     Ok(())
 }
 
-/// The outcome of the index, with a refusal in words.
-fn reported(heap: Global, outcome: Result<(), Fault>) -> anyhow::Result<()> {
-    match outcome {
-        Ok(()) => Ok(()),
-        Err(fault) => {
-            let number = fault.number();
-            let detail = fault.detail();
-            Err(anyhow!(format!(in heap; "stopped with number {number}, detail {detail}")?))
-        }
-    }
-}
-
 /// Prints a line for each frame of the readings, also of those before a list was full.
 fn list(rt: &HostRuntime, readings: &[u8]) -> anyhow::Result<()> {
     let mut frame_slots = [no_frame(); LISTED];
     let mut fault_slots = [no_fault(); LISTED];
     let mut frames = BoundedList::new(&mut frame_slots);
     let mut faults = BoundedList::new(&mut fault_slots);
-    let outcome = index(
-        &Marks,
-        readings,
-        &mut [0; TOTALS],
-        &mut [0; NUMBERS],
-        &mut frames,
-        &mut faults,
-    );
+    let mut totals = [0; TOTALS];
+    let mut numbers = [0; NUMBERS];
+    let mut work = Work::new(&mut totals, &mut numbers);
+    let outcome = index(&Marks, readings, &mut work, &mut frames, &mut faults);
     print_lines(rt, frames.entries(), faults.entries())?;
-    reported(rt.alloc(), outcome)
+    outcome.map_err(|fault| anyhow!("stopped with {fault}"))
 }
 
 fn run(rt: &HostRuntime) -> anyhow::Result<()> {

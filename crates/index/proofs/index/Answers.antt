@@ -25,6 +25,7 @@ loop-frame-init g c =
       record { room = refl; named = refl },
       begins (capacity frames) (capacity faults) (listed frames) (listed faults) _ _
           (ap (map (frame_line μ c.args.m.now)) (ap (to_come μ) c.into_iter-frame-iterator.ensures.into_iter_gives ∙ c.new-frame-items.ensures.frames)),
+      refl,
     )
 
 pub loop-frame-preserved : goal.loop-frame-preserved
@@ -36,15 +37,16 @@ loop-frame-preserved g c =
     let frame = c.in-Some.frame in
     let outcome = c.read_fich_marks.result in
     let line = line_of frame.place frame.missed outcome in
-    let sizes = none_refused (size_fault 480 (length c.args.totals.now) (length c.args.numbers.now)) tt tt (sym c.check_sizes.ensures ∙ c.in_ok-check_sizes.was) in
+    let sizes = none_refused (size_fault 480 c.args.work.now.totals c.args.work.now.numbers) tt tt (sym c.check_sizes.ensures ∙ c.in_ok-check_sizes.was) in
     let begin =
-    next_line μ c.args.m.now _ (to_come μ c.next.new.self) (as_seen frame) outcome _ _ _ _ c.in-Some.ensures.steps.yields
-    c.loop-frame.auto.totals c.loop-frame.auto.numbers sizes c.read_fich_marks.ensures.value in
+    next_line μ c.args.m.now _ (to_come μ c.next.new.self) (as_seen frame) outcome _ _ c.in-Some.ensures.steps.yields
+    kept.3 sizes c.read_fich_marks.ensures.value in
     let none = none_refused (full_fault (room frames) (room faults) (line ∷ [])) tt tt (sym c.note.ensures.value ∙ c.in_ok-note.was) in (
       kept_on c.args.frames.now frames c.note.new.frames kept.0 c.note.ensures.frame_slots,
       kept_on c.args.faults.now faults c.note.new.faults kept.1 c.note.ensures.fault_slots,
       turned_on frames c.note.new.frames faults c.note.new.faults line _ _ _ _ _ begin kept.2
           c.note.ensures.frames c.note.ensures.faults c.note.ensures.frame_slots c.note.ensures.fault_slots none,
+      c.read_fich_marks.ensures.kept ∙ kept.3,
     )
 
 pub returns-in_err-check_sizes : goal.returns-in_err-check_sizes
@@ -57,7 +59,7 @@ returns-in_err-check_sizes g c =
     let lines = recorded μ m readings in
     let kept = fitting (room frames) (room faults) lines in
     let full = full_fault (room frames) (room faults) lines in
-    let sizes = size_fault 480 (length c.args.totals.now) (length c.args.numbers.now) in
+    let sizes = size_fault 480 c.args.work.now.totals c.args.work.now.numbers in
     let why = c.in_err-check_sizes.field-0.0 in
     let is = fault_refused sizes tt why (sym c.check_sizes.ensures ∙ c.in_err-check_sizes.was) in
     let p = err_from_is_err_and c.from_residual.result c.from_residual.ensures.1 in
@@ -68,6 +70,7 @@ returns-in_err-check_sizes g c =
       law = indexed μ m readings splits_back (runs μ m readings) (room frames) (room faults);
       frame_slots = record { room = refl; named = refl };
       fault_slots = record { room = refl; named = refl };
+      kept = refl;
     }
 
 pub returns-in_err-note : goal.returns-in_err-note
@@ -80,7 +83,7 @@ returns-in_err-note g c =
     let lines = recorded μ m readings in
     let all = fitting (room before) (room before-faults) lines in
     let full = full_fault (room before) (room before-faults) lines in
-    let sizes = none_refused (size_fault 480 (length c.args.totals.now) (length c.args.numbers.now)) tt tt (sym c.check_sizes.ensures ∙ c.in_ok-check_sizes.was) in
+    let sizes = none_refused (size_fault 480 c.args.work.now.totals c.args.work.now.numbers) tt tt (sym c.check_sizes.ensures ∙ c.in_ok-check_sizes.was) in
     let kept = c.loop-frame.invariant in
     let frames = c.loop-frame.frames in
     let faults = c.loop-frame.faults in
@@ -88,8 +91,8 @@ returns-in_err-note g c =
     let outcome = c.read_fich_marks.result in
     let line = line_of frame.place frame.missed outcome in
     let begin =
-    next_line μ m _ (to_come μ c.next.new.self) (as_seen frame) outcome _ _ _ _ c.in-Some.ensures.steps.yields
-    c.loop-frame.auto.totals c.loop-frame.auto.numbers sizes c.read_fich_marks.ensures.value in
+    next_line μ m _ (to_come μ c.next.new.self) (as_seen frame) outcome _ _ c.in-Some.ensures.steps.yields
+    kept.3 sizes c.read_fich_marks.ensures.value in
     let why = c.in_err-note.field-0.0 in
     let stop = fault_refused (full_fault (room frames) (room faults) (line ∷ [])) tt why (sym c.note.ensures.value ∙ c.in_err-note.was) in
     let last =
@@ -102,6 +105,7 @@ returns-in_err-note g c =
       law = indexed μ m readings splits_back (runs μ m readings) (room before) (room before-faults);
       frame_slots = kept_on before frames c.note.new.frames kept.0 c.note.ensures.frame_slots;
       fault_slots = kept_on before-faults faults c.note.new.faults kept.1 c.note.ensures.fault_slots;
+      kept = c.read_fich_marks.ensures.kept ∙ kept.3;
     }
 
 pub returns : goal.returns
@@ -114,7 +118,7 @@ returns g c =
     let lines = recorded μ m readings in
     let all = fitting (room before) (room before-faults) lines in
     let full = full_fault (room before) (room before-faults) lines in
-    let sizes = none_refused (size_fault 480 (length c.args.totals.now) (length c.args.numbers.now)) tt tt (sym c.check_sizes.ensures ∙ c.in_ok-check_sizes.was) in
+    let sizes = none_refused (size_fault 480 c.args.work.now.totals c.args.work.now.numbers) tt tt (sym c.check_sizes.ensures ∙ c.in_ok-check_sizes.was) in
     let kept = c.loop-frame.invariant in
     let frames = c.loop-frame.frames in
     let faults = c.loop-frame.faults in
@@ -127,4 +131,5 @@ returns g c =
       law = indexed μ m readings splits_back (runs μ m readings) (room before) (room before-faults);
       frame_slots = kept.0;
       fault_slots = kept.1;
+      kept = kept.3;
     }

@@ -1,4 +1,4 @@
-use Rattle.std.proofs.Common.{◌++◌, map}
+use Rattle.std.proofs.Common.{◌≡◌, ◌++◌, map}
 use Rattle.walk.specs.Frames.{to_come}
 use Rattle.entries.specs.Lines.{accepted, refused}
 use Rattle.entries.specs.Lists.{listed, capacity, SameSlots}
@@ -16,3 +16,4 @@ invariant-loop-frame g l =
     × SameSlots l.initial.faults l.faults
     × Leads (capacity l.frames) (capacity l.faults) (listed l.frames) (listed l.faults) (map (frame_line μ l.m) (to_come μ l.frame-iterator))
     (listed l.initial.frames ++ accepted (fitting a r lines)) (listed l.initial.faults ++ refused (fitting a r lines)) (full_fault a r lines)
+    × (l.work ≡ l.initial.work)
