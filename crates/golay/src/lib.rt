@@ -152,6 +152,7 @@ fn seek(syndrome: Half, places: u32, left: u32) -> Option<Half>
     let bit = Half {
         bits: 1 << (places - 1),
     };
+    // No `map` and `or_else`: a closure that calls `seek` makes a cycle of two functions, each with its measure.
     match seek(syndrome ^ bit.check_bits(), places - 1, left - 1) {
         Some(lower) => Some(lower ^ bit),
         None => seek(syndrome, places - 1, left),
