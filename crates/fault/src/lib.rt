@@ -66,6 +66,7 @@ pub enum Fault {
 }
 
 impl Fault {
+    // Numbers: refusals are listed by them, and some cases carry a value, so no discriminant says them.
     /// The number under which the refusal is listed.
     pub fn number(self) -> u8
         ensures { result ≡ number_of self }

@@ -40,6 +40,7 @@ fn covers(slots: &[Stretch; SLOTS], used: u16, place: usize) -> bool
     inside
 }
 
+// Slots and their number, and no growing list: a mute is copied, and its memory is fixed.
 /// The measure below it, except that a reading inside one of up to eight stretches leaves the total as it is.
 #[derive(Clone, Copy)]
 pub struct Mute<M> {

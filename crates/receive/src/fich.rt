@@ -40,6 +40,7 @@ pub fn read_fich<M: Measure>(
     fich_of_word(&found.word)
 }
 
+// A function of its own beside `read_fich`, since its theorem needs marks.
 /// The FICH of a frame of marks, some of them muted: as it was sent, where the damage is small enough.
 pub fn read_fich_marks<M: MutedMarks>(
     m: &M,

@@ -15,9 +15,10 @@ use mute::Mute;
 use trellis::search::{WORD_BYTES, search};
 use trellis::work::{NUMBERS, TOTALS, Work};
 
-/// What a search that refused answers for a total.
+/// What a search that refused answers for a total: C has no `Option` for it.
 const REFUSED: u64 = u64::MAX;
 
+// A flag, as C hands it over.
 fn block_of(long: bool) -> Block
     ensures { result ≡ searched_block long }
 {

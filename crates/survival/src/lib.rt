@@ -33,7 +33,8 @@ pub fn read_marks<M: MutedMarks>(
     search(m, block, readings, work)
 }
 
-/// The word of a block whose readings are levels. Its theorem is another than that of marks.
+// No twin of the one for marks: what damage a block bears is claimed of marks alone.
+/// The word of a block whose readings are levels.
 pub fn read_levels(
     block: Block,
     readings: &[i16],

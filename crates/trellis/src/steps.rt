@@ -11,7 +11,8 @@ use measure::Measure;
 /// How many states the coder has: its last four inputs.
 pub(crate) const STATES: usize = 16;
 
-/// The totals of the two states that share their states before, and which way won: 1 for the even, 2 for the odd.
+/// The totals of the two states that share their states before, and which way won: 1 for the even, 2 for the odd, as
+/// the two bits stand in a decision.
 #[derive(Clone, Copy)]
 struct Pair<T> {
     even: T,
@@ -49,6 +50,7 @@ fn turned_over(dibit: Dibit) -> Dibit
     }
 }
 
+// Measure, place and reading stay three parameters: clauses on the fields of a struct of them would be longer.
 /// The totals of two states, each by the two dibits that lead on from it. The measure is asked in one place only,
 /// so that the compiler takes what it does for the reading out of the loops over the states.
 fn four_ways<M: Measure>(
@@ -64,12 +66,15 @@ fn four_ways<M: Measure>(
     let turned = turned_over(plain);
     let dibits = [plain, turned, turned, plain];
     let mut ways = [low, high, low, high];
+    // By index: `map` and a loop over the items need a bound on the size of a total, and a measure gives none.
     for w in 0..4usize {
         ways[w] = m.extend(ways[w], place, reading, dibits[w]);
     }
     ways
 }
 
+/// The total of the better way into a state, the first at a tie; and whether the second won, which is a bit of the
+/// decision and no missing total.
 fn pick<M: Measure>(m: &M, zero: M::Total, one: M::Total) -> (M::Total, bool)
     ensures { result ≡ ((if M.means.better m.now one zero then one else zero), M.means.better m.now one zero) }
 {
@@ -127,6 +132,7 @@ fn advance<M: Measure>(
     ensures decisions { result ≡ packed (one_wins M.means m.now (hears place reading.now) old.now) 16 }
 {
     let mut decisions = 0;
+    // By index: a butterfly reads totals j and j + 8, and writes 2j and 2j + 1.
     for j in 0..8usize {
         let pair = butterfly(m, both, place, reading, old, j);
         store(new, 2 * j, pair.even);
