@@ -41,11 +41,10 @@ fn weigh<M: Measure>(
 }
 
 /// Follows the decisions back from the all-0 state, and puts the inputs in their place.
-fn trace(decisions: &mut [u16], end: u16)
-    requires { end ≡ 0 }
+fn trace(decisions: &mut [u16])
     ensures { decisions.new ≡ reverse (traced (reverse decisions.old) 0) }
 {
-    let mut state = end;
+    let mut state = 0;
     // By index: nothing is known of what a loop over `iter_mut().rev()` leaves.
     for t in (0..decisions.len()).rev() {
         let ways = decisions[t];
@@ -91,7 +90,7 @@ fn find<M: Measure>(
 {
     let bank = totals.as_mut_array().unwrap();
     weigh(m, block, readings, bank, decisions);
-    trace(decisions, 0);
+    trace(decisions);
     Found {
         word: word_of(decisions),
         total: bank[0],
