@@ -8,24 +8,6 @@ use Rattle.bits.specs.Dibits.{dibit}
 use Rattle.bits.specs.declared.Dibit.TheVariants.{D00}
 use Rattle.codes.specs.Convolution.{symbol, coded_after, coded, input_before, symbol_at}
 
-xor_bit : (a b : Bool) → cond (not (beq a b)) 1 0 ≡ cond a 1 0 ⊕ cond b 1 0
-xor_bit true true = refl
-xor_bit true false = refl
-xor_bit false true = refl
-xor_bit false false = refl
-
--- the taps on bits as truth values
-pub tapped_bits : (u u1 u2 u3 u4 : Bool)
-    → dibit (cond (not (beq (not (beq u u3)) u4)) 1 0) (cond (not (beq (not (beq (not (beq u u1)) u2)) u4)) 1 0)
-    ≡ symbol (cond u 1 0) (cond u1 1 0) (cond u2 1 0) (cond u3 1 0) (cond u4 1 0)
-tapped_bits u u1 u2 u3 u4 =
-    let a = xor_bit u u3 in
-    let first = xor_bit (not (beq u u3)) u4 in
-    let b = xor_bit u u1 in
-    let d = xor_bit (not (beq u u1)) u2 in
-    let second = xor_bit (not (beq (not (beq u u1)) u2)) u4 in
-    cc
-
 pub length-coded_after : (past us : List ℕ) → length (coded_after past us) ≡ length us
 unfolding coded_after
 length-coded_after past [] = refl

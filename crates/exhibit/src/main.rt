@@ -35,8 +35,8 @@ fn read_order(text: &[u8]) -> anyhow::Result<Order> {
 
 fn header_of(order: &Order) -> anyhow::Result<[u8; FRAME_BYTES]> {
     let mut frame = [0; FRAME_BYTES];
-    write_header(&mut frame, &order.message, order.mode, &order.settings)
-        .map_err(|fault| anyhow!("refused with {fault}"))?;
+    let written = write_header(&mut frame, &order.message, order.mode, &order.settings);
+    written.map_err(|fault| anyhow!("refused with {fault}"))?;
     Ok(frame)
 }
 

@@ -3,11 +3,6 @@ use Rattle.std.proofs.Common.{◌≡◌, ℕ, Some, None, Ok, Err, Option, refl,
 use Rattle.fault.specs.declared.Fault.{Fault}
 use Rattle.fault.specs.Faults.{refused_or, unless}
 
--- a refusal leaves the old
-pub old_kept : {A B : Type 0} (o : Option Fault) (value : A) (fault : Fault) (new old : B) → refused_or o value ≡ Err fault → old ≡ unless o new old
-old_kept None value fault new old e = let z : ◌≡◌ {A = ℕ} 0 1 = cc in absurd (omega arith)
-old_kept (Some f) value fault new old e = refl
-
 -- an answer means that nothing was refused
 pub none_refused : {A : Type 0} (o : Option Fault) (value answer : A) → refused_or o value ≡ Ok answer → o ≡ None
 none_refused None value answer e = refl

@@ -1,10 +1,10 @@
 -- The parts of a codeword as numbers: data, remainder and parity bit.
-use Rattle.std.proofs.Common.{◌≡◌, ℕ, suc, ◌+◌, ◌*◌, ◌/◌, ◌%◌, ◌^◌, ◌<◌, List, [], ◌∷◌, ◌++◌, length, take, replicate, sym, refl, ap, ◌∙◌, subst, ap₂, mod-lt, arith, take_at}
+use Rattle.std.proofs.Common.{◌≡◌, ℕ, ◌+◌, ◌*◌, ◌/◌, ◌%◌, ◌^◌, ◌<◌, List, [], ◌∷◌, ◌++◌, length, take, replicate, sym, refl, ap, ◌∙◌, subst, ap₂, mod-lt, arith, take_at}
 use lib.Bits.{bit_xor, xor_mod}
 use lib.Count.{ones, ones_cat}
 use lib.Pow.{split}
 use Rattle.bits.specs.Bits.{Bits, bits_of, number_from, number_of, plus}
-use Rattle.bits.specs.Division.{divided, remainder, shifted, fed}
+use Rattle.bits.specs.Division.{divided, remainder, fed}
 use Rattle.bits.proofs.Numbers.{length-bits_of, bits-bits_of, bits-append, bits_of_cat, bits_number, number_below, number_bits, number_of-bits_of, number_from-append, number_from_is}
 use Rattle.bits.proofs.Divides.{remainder-fed, remainder_low, length-remainder, bits-remainder}
 use Rattle.golay.specs.Golay.{generator, aligned, total, with_parity, code_of, check_of}

@@ -99,8 +99,3 @@ changed_at o None value all = aside o o None value no_field refl (λ h. h)
 changed_at o (Some (Text text)) value all = written_text o text value all
 changed_at o (Some Mode) value all = changed_mode o value (mode_of value)
 changed_at o (Some (Number setting)) value all = changed_number o value setting (decimal value)
-
--- an empty line
-pub changed_by_none : (o : Order) (line : List ℕ) → length line ≡ 0 → Changed o (field_of (key_of line)) (value_of line) o
-changed_by_none o [] empty = aside o o None (value_of []) no_field refl (λ h. h)
-changed_by_none o (b ∷ bs) empty = absurd (omega arith)

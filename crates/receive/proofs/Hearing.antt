@@ -1,5 +1,5 @@
 -- From what the search answers for the FICH block to the FICH.
-use Rattle.std.proofs.Common.{◌≡◌, ℕ, Bool, List, [], ◌∷◌, ◌++◌, length, take, Some, None, Ok, Err, Option, Result, sym, refl, ap, ◌∙◌, subst, arith}
+use Rattle.std.proofs.Common.{◌≡◌, ℕ, Bool, List, [], ◌∷◌, ◌++◌, take, Some, None, Ok, Err, Option, Result, sym, refl, ap, ◌∙◌, subst, arith}
 use Rattle.std.proofs.lemmas.List.{reverse-reverse, take_at}
 use Rattle.fault.specs.declared.Fault.{Fault}
 use Rattle.fields.specs.declared.fich.Fich.{Fich as FichFields}

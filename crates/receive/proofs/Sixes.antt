@@ -31,11 +31,3 @@ six_are a b c d p q r s t u h x y =
     let flat : (bits_of 12 a ++ bits_of 12 b) ++ (bits_of 12 c ++ bits_of 12 d) ≡ bits_of 12 a ++ (bits_of 12 b ++ (bits_of 12 c ++ (bits_of 12 d ++ []))) =
     simp (append_assoc, append-nil) in
     sym (numbers_of-byte_bits (p ∷ q ∷ r ∷ s ∷ t ∷ u ∷ []) h) ∙ ap (numbers_of 8 6) (all ∙ flat)
-
-pub front_four : (six : List ℕ) → length six ≡ 6 → take 4 six ≡ get_or six 0 0 ∷ get_or six 1 0 ∷ get_or six 2 0 ∷ get_or six 3 0 ∷ []
-front_four six e = ap (take 4) (sym (listed_is 6 six e))
-
--- the checksum of the first four of six bytes, against the last two
-pub checks : (six : List ℕ) (check high low : ℕ) → length six ≡ 6 → check ≡ crc (get_or six 0 0 ∷ get_or six 1 0 ∷ get_or six 2 0 ∷ get_or six 3 0 ∷ [])
-    → high ≡ get_or six 4 0 → low ≡ get_or six 5 0 → eqb (crc (take 4 six)) (get_or six 4 0 * 256 + get_or six 5 0) ≡ eqb check (high * 256 + low)
-checks six check high low e c h l = let f = front_four six e in cc

@@ -11,13 +11,6 @@ use Rattle.trellis.specs.Steps.{traced}
 pub reverse_push : {A : Type 0} (xs : List A) (x : A) → reverse (xs ++ x ∷ []) ≡ x ∷ reverse xs
 reverse_push xs x = reverse-append xs (x ∷ [])
 
-pub trace_none : (ds : List ℕ) (end : ℕ) → end ≡ 0 → reverse (traced (reverse (take (length ds) ds)) end) ++ drop (length ds) ds ≡ reverse (traced (reverse ds) 0)
-trace_none ds end e =
-    ap (λ s. reverse (traced (reverse (take (length ds) ds)) s) ++ drop (length ds) ds) e
-    ∙ ap (λ l. reverse (traced (reverse l) 0) ++ drop (length ds) ds) (take_all (length ds) ds (omega arith))
-    ∙ ap (λ l. reverse (traced (reverse ds) 0) ++ l) (drop_all (length ds) ds (omega arith))
-    ∙ append-nil (reverse (traced (reverse ds) 0))
-
 pub trace_more : (ds all : List ℕ) (t s : ℕ) → 0 < t → t ≤ length ds
     → reverse (traced (reverse (take t ds)) s) ++ drop t ds ≡ all
     → reverse (traced (reverse (take (t - 1) (set ds (t - 1) (s % 2)))) (s / 2 + 8 * (get_or ds (t - 1) 0 / 2 ^ s % 2))) ++ drop (t - 1) (set ds (t - 1) (s % 2)) ≡ all

@@ -93,9 +93,6 @@ module _ {S R T : Type 0} (μ : Meaning S R T) (m : S) (readings : List R) where
       ∙ ap (λ fs. f ∷ fs) (same_frames n (enough readings (next q)) (next q) (omega arith) (omega arith))
       ∙ ap (λ p. f ∷ frames_after μ m readings p) (sym h)
 
-  pub frames_fall : (q after : Position) (f : Seen R) → Some f ≡ step q → after ≡ next q → enough readings after < enough readings q
-  frames_fall q after f e h = subst (λ p. enough readings p < enough readings q) (sym h) (enough_falls q f (sym e))
-
   in_order : (n : ℕ) (q : Position) → InOrder μ m readings q.place (frames n q)
   unfolding frames_from
   in_order zero q = tt

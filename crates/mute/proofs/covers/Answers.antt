@@ -10,10 +10,3 @@ loop-i-preserved c =
     let h : c.loop-i.i < length slots = search rules in
     let more = covered_more slots c.args.used c.loop-i.i c.args.place (record { first = 0; past = 0 }) h in
     cc
-
-pub returns : goal.returns
-returns c =
-    let slots = c.args.slots.now in
-    let h : length slots ≤ c.loop-i.i = search rules in
-    let few : length (take c.args.used slots) ≤ c.loop-i.i = omega (arith, length-take c.args.used slots) in
-    c.loop-i.invariant ∙ ap (λ ss. covered ss c.args.place) (take_all c.loop-i.i (take c.args.used slots) few)

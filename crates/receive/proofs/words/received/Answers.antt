@@ -1,4 +1,4 @@
-use Rattle.std.proofs.Common.{◌+◌, ◌*◌, arith}
+use Rattle.std.proofs.Common.{arith}
 use Rattle.receive.proofs.Groups.{three_byte_word}
 use Rattle.receive.proofs.words.received.Goals as goal
 

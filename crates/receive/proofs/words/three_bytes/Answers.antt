@@ -1,4 +1,4 @@
-use Rattle.std.proofs.Common.{◌≡◌, ℕ, ◌+◌, ◌*◌, ◌/◌, ◌%◌, List, get_or, ap, arith}
+use Rattle.std.proofs.Common.{◌+◌, ◌*◌, get_or, ap, arith}
 use Rattle.receive.proofs.Sixes.{three_are}
 use Rattle.receive.proofs.words.three_bytes.Goals as goal
 

@@ -1,9 +1,6 @@
 use Rattle.std.proofs.Common.{refl, arith, length-set}
-use Rattle.trellis.proofs.Tracing.{trace_none, trace_more, trace_all}
+use Rattle.trellis.proofs.Tracing.{trace_more, trace_all}
 use Rattle.trellis.proofs.search.trace.Goals as goal
-
-pub loop-t-init : goal.loop-t-init
-loop-t-init c = (omega arith, omega arith, trace_none c.args.decisions.now 0 refl)
 
 pub loop-t-preserved : goal.loop-t-preserved
 loop-t-preserved c = (

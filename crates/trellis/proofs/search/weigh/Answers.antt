@@ -19,14 +19,3 @@ loop-t-preserved g c =
     weighed_more g.M.Measure.means c.args.m.now c.args.block c.args.readings.now c.loop-t.bank c.step.new.bank
     c.loop-t.decisions c.loop-t.t c.step.result
     c.step.ensures (omega arith) (omega (arith, c.requires)) (omega arith) c.loop-t.invariant
-
-pub returns : goal.returns
-returns g c =
-    let μ = g.M.Measure.means in
-    let m = c.args.m.now in
-    let b = c.args.block in
-    let readings = c.args.readings.now in
-    let ds = c.loop-t.decisions in
-    let whole : c.loop-t.t ≡ length_of b = omega (arith, c.requires) in
-    subst (λ l. Holds μ m (reverse (heard_first b readings (length_of b))) c.loop-t.bank (reverse l)) (take_all (length_of b) ds (omega (arith, c.requires)))
-    (subst (λ n. Holds μ m (reverse (heard_first b readings n)) c.loop-t.bank (reverse (take n ds))) whole c.loop-t.invariant)

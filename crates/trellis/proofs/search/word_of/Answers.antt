@@ -1,4 +1,4 @@
-use Rattle.std.proofs.Common.{◌≡◌, ℕ, suc, ◌+◌, ◌-◌, ◌*◌, ◌/◌, ◌<◌, List, [], ◌∷◌, ◌++◌, length, take, drop, set, replicate, sym, refl, ap, ◌∙◌, subst, append_assoc, add-one, arith, rules, length-append, length-drop, take_at, drop_at, drop-drop}
+use Rattle.std.proofs.Common.{◌≡◌, ℕ, suc, ◌+◌, ◌-◌, ◌*◌, ◌/◌, ◌<◌, List, [], ◌∷◌, ◌++◌, length, take, drop, set, replicate, sym, ap, ◌∙◌, subst, append_assoc, add-one, arith, rules, length-drop, take_at}
 use lib.Seq.{set_at}
 use Rattle.bits.specs.Bits.{Bits, number_of, numbers_of}
 use Rattle.bits.proofs.Chunks.{chunk}
@@ -57,12 +57,3 @@ loop-k-preserved c =
           ∙ byte_more c.loop-k.word bits eight k c.gathered.result (omega (arith, more.fits, c.requires.0)) (ap (take 8) cut ∙ take_at eight rest 8 size) c.gathered.ensures i.3
           ∙ ap (λ n. numbers_of 8 n bits ++ replicate (22 - n) 0) (sym next),
     )
-
-pub returns : goal.returns
-returns c =
-    let bits = c.args.bits.now in
-    let k = c.loop-k.k-iterator.count in
-    let s = c.in-None.ensures.steps in
-    let i = c.loop-k.invariant in
-    let e : k ≡ length bits / 8 = omega (arith, s.0.1.0, i.0, i.1, length-drop (8 * k) bits, ap length i.2) in
-    i.3 ∙ ap (λ n. numbers_of 8 n bits ++ replicate (22 - n) 0) e

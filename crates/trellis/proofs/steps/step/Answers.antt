@@ -1,6 +1,5 @@
 use Rattle.std.proofs.Common.{◌<◌, length, get_or, refl, subst, arith}
 use Rattle.std.proofs.lemmas.List.{get_or_default}
-use Rattle.layout.specs.Places.{stands}
 use Rattle.trellis.specs.Steps.{Stepped}
 use Rattle.trellis.proofs.Holding.{stepped}
 use Rattle.trellis.proofs.steps.step.Goals as goal
