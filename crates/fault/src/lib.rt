@@ -3,6 +3,7 @@
 
 ghost use Rattle.std.specs.Prelude.{◌≡◌, Some};
 ghost use Rattle.fault.specs.Faults.{number_of, detail_of, fault_text};
+ghost use Rattle.fault.specs.declared.Fault.TheVariants.{FieldNotAllowed};
 
 use std::error::Error;
 use std::fmt;
@@ -66,7 +67,7 @@ pub enum Fault {
 }
 
 impl Fault {
-    // Numbers: refusals are listed by them, and some cases carry a value, so no discriminant says them.
+    // Numbers, and so the details: refusals are listed by them, and some cases carry a value that no discriminant says.
     /// The number under which the refusal is listed.
     pub fn number(self) -> u8
         ensures { result ≡ number_of self }
@@ -101,6 +102,14 @@ impl Fault {
             | Fault::TooWide
             | Fault::ListFull => 0,
         }
+    }
+}
+
+impl From<Field> for Fault {
+    ghost from_gives = { λ field fault. fault ≡ FieldNotAllowed field };
+
+    fn from(field: Field) -> Fault {
+        Fault::FieldNotAllowed(field)
     }
 }
 

@@ -5,7 +5,8 @@ ghost use Rattle.fields.specs.Received.{type_of, fich_read, Inverse};
 use crate::fich::{CallMode, DataType, Fich, FrameKind, Routing};
 use fault::{Fault, Field};
 
-/// The type that the two bits of DT say: each of their numbers is one.
+// No `TryFrom`: each number of two bits is a type, so its error would never come.
+/// The type that the two bits of DT say.
 fn data_type(dt: u8) -> DataType
     ensures { result ≡ type_of dt }
 {
@@ -25,18 +26,18 @@ impl Fich {
         ensures inverse { Inverse bytes.now }
     {
         let [addressing, counting, signalling, squelch] = *bytes;
-        let kind = FrameKind::try_from(addressing / 64).map_err(Fault::FieldNotAllowed)?;
+        let kind = FrameKind::try_from(addressing / 64)?;
         if addressing / 16 % 4 != 2 {
             return Err(Fault::FieldNotAllowed(Field::Callsigns));
         }
-        let call_mode = CallMode::try_from(addressing / 4 % 4).map_err(Fault::FieldNotAllowed)?;
+        let call_mode = CallMode::try_from(addressing / 4 % 4)?;
         if addressing % 4 > counting / 64 {
             return Err(Fault::FieldNotAllowed(Field::BlockNumber));
         }
         if counting / 8 % 8 > counting % 8 {
             return Err(Fault::FieldNotAllowed(Field::FrameNumber));
         }
-        let routing = Routing::try_from(signalling / 8 % 8).map_err(Fault::FieldNotAllowed)?;
+        let routing = Routing::try_from(signalling / 8 % 8)?;
         Ok(Fich {
             kind,
             call_mode,

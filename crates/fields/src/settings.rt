@@ -17,6 +17,7 @@ pub struct Settings {
     pub sc: u8,
 }
 
+// By hand: there is no `TryFrom<u8>` of `bool`.
 /// The flag that a setting of one bit says.
 fn flag(setting: u8) -> Result<bool, Fault>
     ensures { result ≡ flag_read setting }

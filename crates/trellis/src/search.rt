@@ -2,13 +2,14 @@
 ghost use Rattle.std.specs.Prelude.{◌≡◌, ℕ, ◌+◌, ◌-◌, ◌*◌, ◌/◌, ◌<◌, ◌≤◌, ◌++◌, reverse, length, take, drop, replicate, slice_index, slice_set};
 ghost use Rattle.bits.specs.Bits.{Bits, number_of, numbers_of};
 ghost use Rattle.layout.specs.Places.{length_of};
-ghost use Rattle.trellis.specs.Answers.{work_fault, Answers, Searched};
+ghost use Rattle.fault.specs.Faults.{refused_or};
+ghost use Rattle.trellis.specs.Answers.{size_fault, work_fault, Answers, Searched};
 ghost use Rattle.trellis.specs.Words.{heard};
 ghost use Rattle.trellis.specs.Steps.{traced, Holds};
 
 use crate::steps::{STATES, step};
-use crate::work::Work;
-use fault::Fault;
+use crate::work::{NUMBERS, TOTALS, Work};
+use fault::{Fault, Memory};
 use layout::{Block, FRAME_PLACES};
 use measure::Measure;
 
@@ -71,12 +72,14 @@ fn word_of(bits: &[u16]) -> [u8; WORD_BYTES]
     ensures { result ≡ numbers_of 8 (length bits.now / 8) bits.now ++ replicate (22 - length bits.now / 8) 0 }
 {
     let mut word = [0; WORD_BYTES];
+    // By index: nothing is known of what `zip` with `iter_mut` leaves.
     for (k, eight) in bits.chunks_exact(8).enumerate() {
         word[k] = gathered(eight);
     }
     word
 }
 
+// Totals as a slice: nothing is known of the lent ones after `first_chunk_mut`.
 /// The best word and its total, worked out in sixteen totals and a number for each reading.
 fn find<M: Measure>(
     m: &M,
@@ -95,6 +98,22 @@ fn find<M: Measure>(
         word: word_of(decisions),
         total: bank[0],
     }
+}
+
+/// Refuses the first memory of the wrong size.
+pub fn check_sizes(readings: usize, totals: usize, numbers: usize) -> Result<(), Fault>
+    ensures { result ≡ refused_or (size_fault readings totals numbers) tt }
+{
+    if readings != FRAME_PLACES {
+        return Err(Fault::WrongSize(Memory::Readings));
+    }
+    if totals != TOTALS {
+        return Err(Fault::WrongSize(Memory::Totals));
+    }
+    if numbers != NUMBERS {
+        return Err(Fault::WrongSize(Memory::Numbers));
+    }
+    Ok(())
 }
 
 /// The word that fits the readings of a block best.

@@ -50,7 +50,8 @@ fn turned_over(dibit: Dibit) -> Dibit
     }
 }
 
-// Measure, place and reading stay three parameters: clauses on the fields of a struct of them would be longer.
+// Measure, place and reading are parameters here and below: with a struct of them each clause that says `place` and
+// `reading.now` would say `self.now.place` and `self.now.reading.now`.
 /// The totals of two states, each by the two dibits that lead on from it. The measure is asked in one place only,
 /// so that the compiler takes what it does for the reading out of the loops over the states.
 fn four_ways<M: Measure>(
@@ -66,7 +67,7 @@ fn four_ways<M: Measure>(
     let turned = turned_over(plain);
     let dibits = [plain, turned, turned, plain];
     let mut ways = [low, high, low, high];
-    // By index: `map` and a loop over the items need a bound on the size of a total, and a measure gives none.
+    // By index: `map`, and the totals as a slice, need a bound on the size of a total, and a measure gives none.
     for w in 0..4usize {
         ways[w] = m.extend(ways[w], place, reading, dibits[w]);
     }

@@ -3,8 +3,8 @@ ghost use Rattle.std.specs.Prelude.{◌≡◌, length};
 ghost use Rattle.fault.specs.Faults.{refused_or};
 ghost use Rattle.trellis.specs.Answers.{size_fault};
 
-use fault::{Fault, Memory};
-use layout::FRAME_PLACES;
+use crate::search::check_sizes;
+use fault::Fault;
 use std::marker::Model;
 
 /// How many totals a search works with.
@@ -37,19 +37,18 @@ impl<'a, T> Work<'a, T> {
         Work { totals, numbers }
     }
 
+    /// How many totals and how many numbers there are.
+    pub fn sizes(&self) -> (usize, usize)
+        ensures { result ≡ (self.now.totals, self.now.numbers) }
+    {
+        (self.totals.len(), self.numbers.len())
+    }
+
     /// Refuses the first memory of the wrong size, the readings before the totals and the numbers.
     pub fn check_sizes(&self, readings: usize) -> Result<(), Fault>
         ensures { result ≡ refused_or (size_fault readings self.now.totals self.now.numbers) tt }
     {
-        if readings != FRAME_PLACES {
-            return Err(Fault::WrongSize(Memory::Readings));
-        }
-        if self.totals.len() != TOTALS {
-            return Err(Fault::WrongSize(Memory::Totals));
-        }
-        if self.numbers.len() != NUMBERS {
-            return Err(Fault::WrongSize(Memory::Numbers));
-        }
-        Ok(())
+        let (totals, numbers) = self.sizes();
+        check_sizes(readings, totals, numbers)
     }
 }

@@ -31,8 +31,8 @@ pub struct Frame<'a, R> {
 
 /// A walk over a recording that hands out its frames one by one.
 #[derive(Drop)]
-pub struct Walk<'a, M: Measure> {
-    measure: &'a M,
+pub struct Walk<'m, 'a, M: Measure> {
+    measure: &'m M,
     readings: &'a [M::Reading],
     place: usize,
     /// How many sync words in succession a locked walk has missed. A walk that is not locked has none.
@@ -47,9 +47,9 @@ fn sync_dibit(k: usize) -> Dibit
     Dibit::new(bit(&SYNC_WORD, 2 * k), bit(&SYNC_WORD, 2 * k + 1))
 }
 
-impl<'a, M: Measure> Walk<'a, M> {
+impl<'m, 'a, M: Measure> Walk<'m, 'a, M> {
     /// A walk from the start of a recording.
-    pub fn new(measure: &'a M, readings: &'a [M::Reading]) -> Walk<'a, M>
+    pub fn new(measure: &'m M, readings: &'a [M::Reading]) -> Walk<'m, 'a, M>
         ensures position { here result ≡ start }
         ensures same { result.readings ≡ readings.entry }
         ensures measure { result.measure ≡ measure.entry }
@@ -125,7 +125,7 @@ impl<'a, M: Measure> Walk<'a, M> {
     }
 }
 
-impl<'a, M: Measure> Iterator for Walk<'a, M> {
+impl<'m, 'a, M: Measure> Iterator for Walk<'m, 'a, M> {
     type Item = Frame<'a, M::Reading>;
 
     ghost next_gives = { Advances M.means };

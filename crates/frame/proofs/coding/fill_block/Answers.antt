@@ -8,13 +8,6 @@ use Rattle.frame.specs.Coding.{dibit_at}
 use Rattle.frame.proofs.Laying.{block_filled}
 use Rattle.frame.proofs.coding.fill_block.Goals as goal
 
-pub loop-k-preserved : goal.loop-k-preserved
-loop-k-preserved c =
-    let f = dibit_at (rows_of c.args.interleave) (coded (byte_bits c.args.inputs.now)) in
-    λ n h.
-    ap (λ v. get_or (set c.loop-k.block c.loop-k.k v) n 0) c.interleaved_byte.ensures
-    ∙ fill_by_more (byte_by f) c.loop-k.block c.loop-k.k 0 (omega arith) c.loop-k.invariant n h
-
 pub returns : goal.returns
 returns c =
     let f = dibit_at (rows_of c.args.interleave) (coded (byte_bits c.args.inputs.now)) in
