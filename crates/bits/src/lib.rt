@@ -75,6 +75,7 @@ pub fn shift_in_number(register: u16, number: u16, width: u32, taps: u16) -> u16
     ensures { bits_of 16 result ≡ fed (bits_of 16 taps) (bits_of 16 register) (bits_of width number) }
 {
     let mut rest = register;
+    // No index into a buffer: the bits of a number, by their place.
     for place in (0..width).rev() {
         rest = shift_in(rest, number.unbounded_shr(place) % 2 == 1, taps);
     }

@@ -10,7 +10,7 @@ pub enum Interleave {
 }
 
 /// How many places a row has.
-const COLUMNS: usize = 20;
+pub const COLUMNS: usize = 20;
 
 /// The place of item `i`. The rows are a constant since a division by a constant is a multiplication.
 fn place_of<const ROWS: usize>(i: usize) -> usize

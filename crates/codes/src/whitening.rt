@@ -20,6 +20,7 @@ fn eight_on(register: u16) -> u16
     ensures bits { bits_of 9 result ≡ further 8 (bits_of 9 register) }
 {
     let mut further_on = register;
+    // No index: the proof counts the steps by it.
     for _k in 0..8u32 {
         further_on = one_on(further_on);
     }

@@ -23,6 +23,8 @@ pub type FaultEntry = Entry<Fault>;
 /// A line of a listing: a frame that was read or refused.
 pub type Line = Entry<Result<Fich, Fault>>;
 
+// Two impls and no `map` on the outcome: what calls a closure asks of its callers that it may, and a public function asks
+// nothing.
 impl From<FrameEntry> for Line {
     ghost from_gives = { λ frame line. line ≡ accepted_line frame };
 

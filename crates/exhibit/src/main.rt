@@ -22,7 +22,7 @@ fn wants_raw(rt: &HostRuntime) -> anyhow::Result<bool> {
     Ok(raw)
 }
 
-/// The order that the lines of a text make; the first refused line ends it, by its number.
+/// The order that the lines of a text make; the first refused line ends it, and is named by its number.
 fn read_order(text: &[u8]) -> anyhow::Result<Order> {
     let mut order = Order::new();
     for (i, line) in text.split(|b| *b == b'\n').enumerate() {
@@ -56,6 +56,7 @@ fn run(rt: &HostRuntime) -> anyhow::Result<()> {
     Ok(())
 }
 
+// No returned error: the message begins with the program's name.
 fn main(rt: HostRuntime) -> anyhow::Result<ExitCode> {
     if let Err(error) = run(&rt) {
         eprintln!(rt; "exhibit: {error}")?;

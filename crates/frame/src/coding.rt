@@ -38,7 +38,7 @@ fn interleaved_byte(inputs: &[u8], interleave: Interleave, k: usize) -> u8
 }
 
 /// Writes the block whose free inputs are the bits of `inputs`.
-// A slice and no array: it is lent from the middle of a frame, and the interleave says how long it is.
+// A slice and no array: the interleave says how long it is.
 pub(crate) fn fill_block(inputs: &[u8], interleave: Interleave, block: &mut [u8])
     requires { length block.old ≡ 5 * rows_of interleave }
     ensures { block.new ≡ block_bytes (rows_of interleave) (byte_bits inputs.now) }

@@ -15,10 +15,8 @@ use fault::{Buffer, Fault};
 use fields::fich::{DataType, Fich};
 use fields::settings::Settings;
 use golay::codeword;
+pub use layout::MESSAGE_BYTES;
 use layout::{FRAME_BYTES, SYNC_WORD};
-
-/// How many bytes a message has.
-pub const MESSAGE_BYTES: usize = 320;
 
 /// The Golay word of the twelve lowest bits.
 fn golay_bytes(twelve: u16) -> [u8; 3]
@@ -28,6 +26,7 @@ fn golay_bytes(twelve: u16) -> [u8; 3]
     [high, middle, low]
 }
 
+// By hand: twelve bits are no whole bytes.
 /// The two Golay words of three bytes.
 fn golay_pair(a: u8, b: u8, c: u8) -> [u8; 6]
     ensures { byte_bits result ≡ golay_words 2 (bits_of 8 a ++ (bits_of 8 b ++ bits_of 8 c)) }
@@ -51,7 +50,7 @@ fn fich_words(fich: &Fich) -> [u8; 12]
 }
 
 /// Writes the FICH into the part of a frame that is kept for it.
-// A slice and no array: the part is lent from the middle of the frame.
+// A slice and no array: nothing is known of a frame whose middle was lent by `as_mut_array`.
 fn write_fich(part: &mut [u8], fich: &Fich)
     requires { length part.old ≡ 25 }
     ensures { part.new ≡ fich_block fich.now }

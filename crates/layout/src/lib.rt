@@ -4,13 +4,16 @@
 ghost use Rattle.std.specs.Prelude.{◌≡◌, ◌^◌, ◌<◌, ◌≤◌};
 ghost use Rattle.layout.specs.Places.{interleave_of, length_of, spread, stands, OwnPlaces};
 
-use codes::interleave::Interleave;
+use codes::interleave::{COLUMNS, Interleave};
 
 /// How many bytes a frame has.
 pub const FRAME_BYTES: usize = 120;
 
 /// How many dibits, and so how many readings, a frame has.
 pub const FRAME_PLACES: usize = 480;
+
+/// How many bytes a message has.
+pub const MESSAGE_BYTES: usize = 320;
 
 /// The five bytes that begin every frame.
 pub const SYNC_WORD: [u8; 5] = [0xD4, 0x71, 0xC9, 0x63, 0x4D];
@@ -50,7 +53,7 @@ impl Block {
     pub fn dibits(self) -> usize
         ensures { result ≡ length_of self }
     {
-        20 * self.interleave().rows()
+        COLUMNS * self.interleave().rows()
     }
 
     /// The place in the frame of coded dibit `i`.

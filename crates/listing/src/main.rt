@@ -20,6 +20,7 @@ const READINGS: usize = 57_600;
 /// How many frames each of the two lists takes.
 const LISTED: usize = 120;
 
+// One for each list: the values have nothing in common.
 /// What a slot holds before its entry is there.
 fn no_frame() -> FrameEntry {
     Entry {
@@ -98,6 +99,7 @@ fn run(rt: &HostRuntime) -> anyhow::Result<()> {
     list(rt, &readings)
 }
 
+// No returned error: the message begins with the program's name.
 fn main(rt: HostRuntime) -> anyhow::Result<ExitCode> {
     if let Err(error) = run(&rt) {
         eprintln!(rt; "listing: {error}")?;

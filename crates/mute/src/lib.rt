@@ -29,7 +29,8 @@ impl Stretch {
     }
 }
 
-// Every slot is looked at, and no test branches, so that the eight are compared at once.
+// Every slot is looked at, and no test branches, so that the eight are compared at once. A function of its own, since
+// it runs for slots alone, whatever measure lies below.
 fn covers(slots: &[Stretch; SLOTS], used: u16, place: usize) -> bool
     ensures { result ≡ covered (take used slots.now) place }
 {

@@ -2,6 +2,7 @@
 ghost use Rattle.std.specs.Prelude.{◌≡◌};
 ghost use Rattle.order.specs.Decimals.{byte_of};
 
+// By hand: `parse` takes a sign, and a number that is too large as no number.
 /// The number that a text of digits writes, 255 where it is larger than that.
 pub fn decimal(text: &[u8]) -> Option<u8>
     ensures { result ≡ byte_of text.now }

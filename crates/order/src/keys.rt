@@ -39,6 +39,7 @@ pub enum Field {
 }
 
 impl Setting {
+    // No step is chosen here: each arm is the range of one setting.
     /// Whether the setting may have this number.
     pub fn allows(self, number: u8) -> bool
         ensures { result ≡ allows self number }

@@ -21,12 +21,13 @@ use decimal::decimal;
 use fields::fich::DataType;
 use fields::settings::Settings;
 use keys::{Field, Setting};
+use layout::MESSAGE_BYTES;
 
 /// What a header frame is to say.
 #[derive(Clone, Copy, PartialEq, Eq)]
 pub struct Order {
     /// Four texts of ten bytes, four of five, and spaces.
-    pub message: [u8; 320],
+    pub message: [u8; MESSAGE_BYTES],
     pub mode: DataType,
     pub settings: Settings,
 }
@@ -40,6 +41,7 @@ fn put(place: &mut [u8], text: &[u8])
     place[..text.len()].copy_from_slice(text);
 }
 
+// No step is chosen here: each arm writes one field.
 /// Changes one of the settings.
 fn change(settings: &mut Settings, setting: Setting, number: u8)
     ensures { settings.new ≡ with_setting settings.old setting number }
@@ -62,7 +64,7 @@ impl Order {
         ensures settings { allowed result.settings ≡ true }
     {
         Order {
-            message: [b' '; 320],
+            message: [b' '; MESSAGE_BYTES],
             mode: DataType::VdType2,
             settings: Settings {
                 cm: 0,

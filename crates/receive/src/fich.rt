@@ -16,6 +16,7 @@ fn check_proper<M: Measure>(m: &M, readings: &[M::Reading]) -> Result<(), Fault>
     requires { length readings.now ≤ 480 }
     ensures { result ≡ refused_or (first_improper (M.means.proper m.now) 0 readings.now) tt }
 {
+    // A loop with its index, since the place is named.
     for (place, reading) in readings.iter().enumerate() {
         if !m.proper(reading) {
             return Err(Fault::Improper(place as u16));

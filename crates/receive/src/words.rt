@@ -43,6 +43,7 @@ fn golay_data(word: &[u8; WORD_BYTES]) -> Result<[u16; 4], Fault>
     ])
 }
 
+// By hand as far as twelve bits are no whole bytes.
 /// The twelve lowest bits of two numbers, as three bytes.
 fn three_bytes(a: u16, b: u16) -> [u8; 3]
     ensures { byte_bits result ≡ bits_of 12 a ++ bits_of 12 b }

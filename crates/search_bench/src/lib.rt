@@ -33,6 +33,7 @@ fn put(found: &[u8; WORD_BYTES], word: &mut [u8])
     }
 }
 
+// Lent totals: an array of a type parameter is no slice without a bound on its size.
 /// Lays the word that a search finds into `word`; the answer is its total, unless the search refused.
 fn searched<M: Measure>(
     m: &M,

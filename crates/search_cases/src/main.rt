@@ -28,6 +28,7 @@ fn block_of(name: &str) -> anyhow::Result<Block> {
     }
 }
 
+// By hand: `to_digit` takes lower case too.
 fn mark_of(digit: u8) -> anyhow::Result<u8> {
     match digit {
         b'0'..=b'9' => Ok(digit - b'0'),
@@ -37,19 +38,13 @@ fn mark_of(digit: u8) -> anyhow::Result<u8> {
 }
 
 fn marks_of(heap: Global, text: &str) -> anyhow::Result<Vec<u8>> {
-    let mut marks = Vec::new(heap);
-    for digit in text.bytes() {
-        marks.push(mark_of(digit)?)?;
-    }
-    Ok(marks)
+    text.bytes().map(mark_of).try_collect(heap)
 }
 
 fn levels_of(heap: Global, text: &str) -> anyhow::Result<Vec<i16>> {
-    let mut levels = Vec::new(heap);
-    for level in text.split(',') {
-        levels.push(level.parse::<i16>()?)?;
-    }
-    Ok(levels)
+    text.split(',')
+        .map(|level| -> anyhow::Result<i16> { Ok(level.parse()?) })
+        .try_collect(heap)
 }
 
 /// The word that a search finds, and its total, in text.

@@ -56,11 +56,3 @@ returns-in_err-add c =
     ∙ ap Err told.2
     ∙ sym (refused n (length numbers / 2) numbers c.loop-pair.mute c.in_err-add.field-0.0 _ _ (c.from.ensures ∙ it.0) (c.from-in-loop-pair.ensures ∙ it.1)
     (omega (arith, more.fits)) i.3 (sym c.add.ensures.answer ∙ c.in_err-add.was))
-
-pub returns : goal.returns
-returns c =
-    let numbers = c.args.stretches.now in
-    let s = c.in-None.ensures.steps in
-    let i = c.loop-pair.invariant in
-    let all : length c.loop-pair.yielded ≡ length numbers / 2 = omega (arith, s, i.0, i.1, length-drop (2 * length c.loop-pair.yielded) numbers, ap length i.2) in
-    sym i.3 ∙ ap (λ k. mute_of k numbers) all
