@@ -14,6 +14,7 @@ impl fmt::Display for Line {
         let missed = u8::from(self.missed);
         match self.outcome {
             Ok(fich) => {
+                // Byte by byte, as the definition of the text has them.
                 let [a, b, c, d] = fich.bytes();
                 write!(f, "{place} {missed} 0 {a:02X}{b:02X}{c:02X}{d:02X}")
             }

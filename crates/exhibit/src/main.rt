@@ -49,10 +49,7 @@ fn run(rt: &HostRuntime) -> anyhow::Result<()> {
         rt.stdout().write_all(&frame)?;
         return Ok(());
     }
-    for byte in &frame {
-        print!(rt; "{byte:02X}")?;
-    }
-    println!(rt)?;
+    println!(rt; "{}", hex::encode_upper(rt.alloc(), frame)?)?;
     Ok(())
 }
 

@@ -16,6 +16,7 @@ use receive::fich::read_fich_marks;
 use trellis::work::Work;
 use walk::Walk;
 
+// Two arms that make an entry: the entries have two types, and go into two lists.
 /// Puts a frame into its list: what was read of it, or why it was refused.
 fn note(
     line: Line,

@@ -80,16 +80,13 @@ pub extern "C" fn bench_muted(
 ) -> u64
     ensures { MutedCall (mute_of (length stretches.now / 2) stretches.now) long readings.now word.old word.new result }
 {
-    match muted(stretches) {
-        Ok(mute) => searched(&mute, long, readings, &mut [0; TOTALS], word).map_or(
-            REFUSED,
-            u64::from,
-        ),
-        Err(_) => REFUSED,
-    }
+    let Ok(mute) = muted(stretches) else {
+        return REFUSED;
+    };
+    searched(&mute, long, readings, &mut [0; TOTALS], word).map_or(REFUSED, u64::from)
 }
 
-/// The same for a frame of 480 levels.
+/// The same for a frame of 480 levels, with no mute.
 #[unsafe(no_mangle)]
 pub extern "C" fn bench_levels(long: bool, readings: &[i16], word: &mut [u8]) -> u64
     ensures { Called levels_means (record {}) long readings.now word.old word.new result }

@@ -57,11 +57,9 @@ fn found<M: Measure<Total = T>, T: Copy + Display>(
 ) -> anyhow::Result<String> {
     let mut numbers = [0; NUMBERS];
     let mut work = Work::new(totals, &mut numbers);
+    // The cause is left out of the message: a case is at fault here, and its line shows it.
     let found = search(m, block, readings, &mut work).map_err(|_| anyhow!("the search refused"))?;
-    let mut text = String::new(heap);
-    for byte in &found.word {
-        write!(text, "{byte:02x}")?;
-    }
+    let mut text = hex::encode(heap, found.word)?;
     let total = found.total;
     write!(text, " {total}")?;
     Ok(text)
@@ -79,6 +77,7 @@ fn by_marks(
         return found(heap, &Marks, block, &marks, &mut [0; TOTALS]);
     }
     let mut mute = Mute::new(Marks);
+    // As above: the message says what is wrong with the line.
     mute.add(first, length)
         .map_err(|_| anyhow!("no such stretch"))?;
     found(heap, &mute, block, &marks, &mut [0; TOTALS])

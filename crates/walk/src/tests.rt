@@ -7,21 +7,20 @@ use std::test::Fail;
 
 const SYNC: [u8; 20] = [3, 1, 1, 0, 1, 3, 0, 1, 3, 0, 2, 1, 1, 2, 0, 3, 1, 0, 3, 1];
 
-/// Reading `k` of a frame: one marked S begins with the sync word, and all else is zeros.
-fn reading(mark: u8, k: usize) -> u8 {
-    if mark == b'S' && k < 20 {
-        return SYNC[k];
+/// The readings of a frame: one marked S begins with the sync word, and all else is zeros.
+fn frame(mark: u8) -> [u8; 480] {
+    let mut readings = [0; 480];
+    if mark == b'S' {
+        readings[..20].copy_from_slice(&SYNC);
     }
-    0
+    readings
 }
 
 /// A lead-in, and a frame for each mark.
 fn recording(heap: Global, lead: usize, marks: &[u8]) -> Result<Vec<u8>, Fail> {
     let mut readings = vec![in heap; 0; lead]?;
     for mark in marks {
-        for k in 0..480usize {
-            readings.push(reading(*mark, k))?;
-        }
+        readings.extend_from_slice(&frame(*mark))?;
     }
     Ok(readings)
 }

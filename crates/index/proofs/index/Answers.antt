@@ -16,18 +16,6 @@ use Rattle.index.proofs.Keeping.{indexed}
 use Rattle.index.proofs.Turning.{next_line, turned_on, turned_last, kept_on}
 use Rattle.index.proofs.index.Goals as goal
 
-pub loop-frame-init : goal.loop-frame-init
-loop-frame-init g c =
-    let μ = g.M.Measure.means in
-    let frames = c.args.frames.now in
-    let faults = c.args.faults.now in (
-      record { room = refl; named = refl },
-      record { room = refl; named = refl },
-      begins (capacity frames) (capacity faults) (listed frames) (listed faults) _ _
-          (ap (map (frame_line μ c.args.m.now)) (ap (to_come μ) c.into_iter-frame-iterator.ensures.into_iter_gives ∙ c.new-frame-items.ensures.frames)),
-      refl,
-    )
-
 pub loop-frame-preserved : goal.loop-frame-preserved
 loop-frame-preserved g c =
     let μ = g.M.Measure.means in
