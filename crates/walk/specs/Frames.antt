@@ -1,12 +1,16 @@
 -- The frames of a whole recording, and what holds of each step of a walk and of all its frames together.
 -- Frames are whole parts of the recording that do not overlap, and no sync word with a whole frame behind it lies outside them.
-use Rattle.std.specs.Prelude.{◌≡◌, ℕ, zero, suc, ◌+◌, ◌-◌, ◌<◌, ◌≤◌, true, false, ◌⊎◌, List, [], ◌∷◌, ◌++◌, length, take, drop, Some, None, Option, ◌≢◌}
+use Rattle.std.specs.Prelude.{◌≡◌, ℕ, zero, suc, ◌+◌, ◌-◌, ◌/◌, ◌<◌, ◌≤◌, true, false, ◌⊎◌, List, [], ◌∷◌, ◌++◌, length, take, drop, Some, None, Option, ◌≢◌}
 use Rattle.measure.specs.Meaning.{Meaning}
 use Rattle.walk.specs.Sync.{Starts}
 use Rattle.std.specs.Iterator.{YieldsFirstBy}
 use Rattle.walk.specs.declared.Walk.{Walk}
 use Rattle.walk.specs.declared.Frame.{Frame}
 use Rattle.walk.specs.Walks.{Position, Seen, here, as_seen, seen, start, frame_taken, position_after}
+
+-- how many whole frames the readings from a place on have room for
+abbrev pub frames_left : ℕ → ℕ → ℕ
+frames_left readings place = (readings - place) / 480
 
 -- a frame and those after it, if there is one
 abbrev pub then_more : {R : Type 0} → Option (Seen R) → List (Seen R) → List (Seen R)

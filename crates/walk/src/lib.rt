@@ -6,7 +6,7 @@ ghost use Rattle.std.specs.Iterator.{item_count, UpTo};
 ghost use Rattle.std.specs.Iterator.SizeHint.{IsWithinCount};
 ghost use Rattle.walk.specs.Sync.{sync_dibit, synced, frame_places, first_sync};
 ghost use Rattle.walk.specs.Walks.{here, seen, start, past, shown, taken};
-ghost use Rattle.walk.specs.Frames.{all_frames, to_come, Runs, Advances};
+ghost use Rattle.walk.specs.Frames.{all_frames, frames_left, to_come, Runs, Advances};
 
 use bits::{Dibit, bit};
 use layout::{FRAME_PLACES, SYNC_WORD};
@@ -140,6 +140,7 @@ impl<'m, 'a, M: Measure> Iterator for Walk<'m, 'a, M> {
 
     /// No more frames come than the rest of the recording has room for.
     fn size_hint(&self) -> (usize, Option<usize>)
+        ensures value { result ≡ (0, Some (frames_left (length self.now.readings.now) self.now.place)) }
         ensures lower { IsWithinCount result.0 (item_count (to_come M.means) self.now) }
         ensures upper { IfSome result.1 (UpTo (item_count (to_come M.means) self.now)) }
     {
