@@ -14,7 +14,7 @@ use layout::FRAME_PLACES;
 use measure::MutedMarks;
 use receive::fich::read_fich_marks;
 use trellis::work::Work;
-use walk::Walk;
+use walk::Frames;
 
 // Two arms that make an entry: the entries have two types, and go into two lists.
 /// Puts a frame into its list: what was read of it, or why it was refused.
@@ -66,7 +66,7 @@ pub fn index<M: MutedMarks>(
     ensures kept { work.new ≡ work.old }
 {
     work.check_sizes(FRAME_PLACES)?;
-    for frame in Walk::new(m, readings) {
+    for frame in Frames::new(m, readings) {
         let line = Line {
             place: frame.place,
             missed: frame.missed,

@@ -5,7 +5,7 @@ use Rattle.measure.specs.Meaning.{Meaning}
 use Rattle.walk.specs.Sync.{Starts}
 use Rattle.std.specs.Prelude.{⊤}
 use Rattle.std.specs.Iterator.{YieldsFirstBy, item_count, MakesProgress}
-use Rattle.walk.specs.declared.Walk.{Walk}
+use Rattle.walk.specs.declared.Frames.{Frames}
 use Rattle.walk.specs.declared.Frame.{Frame}
 use Rattle.walk.specs.Walks.{Position, Seen, here, as_seen, seen, start, frame_taken, position_after}
 use Rattle.walk.specs.Frames.{then_more, Inside, NoFourMissed, frames_from, enough, frames_after, all_frames, to_come, Hands, Ends, Takes, InOrder, Runs}
@@ -175,19 +175,22 @@ module _ {S R T : Type 0} (μ : Meaning S R T) (m : S) (readings : List R) where
 
 -- a step of a walk, said of the frames that are still to come
 module _ {S R T : Type 0} (μ : Meaning S R T) where
-  pub went_on : (w v : Walk S R T) (f : Frame R) → Some (as_seen f) ≡ frame_taken μ w.measure.now w.readings.now (here w)
-      → here v ≡ position_after μ w.measure.now w.readings.now (here w) → v.readings ≡ w.readings → v.measure ≡ w.measure
-      → YieldsFirstBy as_seen (to_come μ) w (Some f) v × MakesProgress {A = Frame R} (λ _. ⊤) (item_count (to_come μ)) w (Some f) v
-  went_on w v f value after readings measure =
-      let same : to_come μ v ≡ frames_after μ w.measure.now w.readings.now (here v) =
-      ap (λ rs. frames_after μ v.measure.now rs.now (here v)) readings ∙ ap (λ m. frames_after μ m.now w.readings.now (here v)) measure in
-      let on = frames_go_on μ w.measure.now w.readings.now (here w) (here v) (as_seen f) value after in
+  abbrev Goes : Frames S R T → Option (Frame R) → Frames S R T → Type 0
+  Goes w answer v = YieldsFirstBy as_seen (to_come μ) w answer v × MakesProgress {A = Frame R} (λ _. ⊤) (item_count (to_come μ)) w answer v
+
+  pub went : (w v : Frames S R T) (answer : Option (Frame R)) → seen answer ≡ frame_taken μ w.measure.now w.walk.readings.now (here w.walk)
+      → here v.walk ≡ position_after μ w.measure.now w.walk.readings.now (here w.walk)
+      → Takes μ w.measure.now w.walk.readings.now (here w.walk) (here v.walk) (seen answer)
+      → v.walk.readings ≡ w.walk.readings → v.measure ≡ w.measure → Goes w answer v
+  went w v None value after law readings measure =
+      let none = frames_end μ w.measure.now w.walk.readings.now (here w.walk) value in
+      let same : to_come μ v ≡ frames_after μ w.measure.now w.walk.readings.now (here v.walk) =
+      ap (λ rs. frames_after μ v.measure.now rs.now (here v.walk)) readings ∙ ap (λ m. frames_after μ m.now w.walk.readings.now (here v.walk)) measure in
+      let left = same ∙ ap (frames_after μ w.measure.now w.walk.readings.now) law.unchanged ∙ none in
+      ((none, left), record { on = λ _. tt; keeps = tt; rests = λ _. tt })
+  went w v (Some f) value after law readings measure =
+      let same : to_come μ v ≡ frames_after μ w.measure.now w.walk.readings.now (here v.walk) =
+      ap (λ rs. frames_after μ v.measure.now rs.now (here v.walk)) readings ∙ ap (λ m. frames_after μ m.now w.walk.readings.now (here v.walk)) measure in
+      let on = frames_go_on μ w.measure.now w.walk.readings.now (here w.walk) (here v.walk) (as_seen f) value after in
       let steps : to_come μ w ≡ as_seen f ∷ to_come μ v = on ∙ ap (λ fs. as_seen f ∷ fs) (sym same) in
       (steps, record { on = λ _. (tt, tt, let n = ap length steps in omega arith); keeps = tt; rests = λ _. tt })
-
-  pub ended : (w : Walk S R T) (r : Option (Frame R)) → r ≡ None → seen r ≡ frame_taken μ w.measure.now w.readings.now (here w)
-      → YieldsFirstBy as_seen (to_come μ) w r w × MakesProgress {A = Frame R} (λ _. ⊤) (item_count (to_come μ)) w r w
-  ended w r e value =
-      let none = frames_end μ w.measure.now w.readings.now (here w) (sym (ap seen e) ∙ value) in
-      subst (λ o. YieldsFirstBy as_seen (to_come μ) w o w × MakesProgress {A = Frame R} (λ _. ⊤) (item_count (to_come μ)) w o w) (sym e)
-      ((none, none), record { on = λ _. tt; keeps = tt; rests = λ _. tt })

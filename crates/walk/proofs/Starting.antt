@@ -1,5 +1,5 @@
 -- A sync word starts where the test says so.
-use Rattle.std.proofs.Common.{◌≡◌, ℕ, zero, suc, ◌+◌, ◌-◌, ◌<◌, ◌≤◌, Bool, true, false, ◌&&◌, eqb, List, [], ◌∷◌, map, length, get_or, take, drop, Some, None, Option, sym, refl, ap, ◌∙◌, subst, ⊎_elim, arith}
+use Rattle.std.proofs.Common.{◌≡◌, ℕ, zero, suc, ◌+◌, ◌-◌, ◌<◌, ◌≤◌, Bool, true, false, ◌&&◌, eqb, List, [], ◌∷◌, map, length, get_or, take, drop, Some, None, Option, sym, refl, ap, ◌∙◌, subst, ⊎_elim, arith, length-drop, length-take}
 use Rattle.std.specs.Prelude.{MatchOption, MatchBool, HoldsAt}
 use Rattle.std.specs.List.{AllWithin, enumerate_from}
 use Rattle.std.proofs.lemmas.List.FromFn.{length-enumerate_from, get_or-enumerate_from}
@@ -71,6 +71,12 @@ module _ {S R T : Type 0} (μ : Meaning S R T) (m : S) (readings : List R) where
 
   pub not_synced : (place : ℕ) → (Starts μ m readings place → ⊥) → false ≡ synced μ m readings place
   not_synced place never = ⊎_elim (λ e. absurd (never (synced_true place e))) (λ e. sym e) (cases_Bool (synced μ m readings place))
+
+  -- fewer readings than a sync word has
+  pub short_of_sync : (place : ℕ) → length readings < place + 20 → false ≡ synced μ m readings place
+  short_of_sync place h =
+      let n = length-map (take 20 (drop place readings)) (μ.plain m) in
+      not_synced place (λ e. let l = ap length e in omega (arith, n, l, length_sync, length-take 20 (drop place readings), length-drop place readings))
 
   -- the words of a recording, dibit by dibit: place k has the sync word's dibit k, or it has another
   abbrev pub Alike : ℕ × R → Type 0

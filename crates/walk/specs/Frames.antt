@@ -4,7 +4,7 @@ use Rattle.std.specs.Prelude.{◌≡◌, ℕ, zero, suc, ◌+◌, ◌-◌, ◌/�
 use Rattle.measure.specs.Meaning.{Meaning}
 use Rattle.walk.specs.Sync.{Starts}
 use Rattle.std.specs.Iterator.{YieldsFirstBy}
-use Rattle.walk.specs.declared.Walk.{Walk}
+use Rattle.walk.specs.declared.Frames.{Frames}
 use Rattle.walk.specs.declared.Frame.{Frame}
 use Rattle.walk.specs.Walks.{Position, Seen, here, as_seen, seen, start, frame_taken, position_after}
 
@@ -89,17 +89,17 @@ module _ {S R T : Type 0} (μ : Meaning S R T) (m : S) (readings : List R) where
     pub few_missed : NoFourMissed frames
     pub none_lost : (place : ℕ) → place + 480 ≤ length readings → Starts μ m readings place → Inside place frames
 
--- the frames that a walk has still to hand out
-abbrev pub to_come : {S R T : Type 0} → Meaning S R T → Walk S R T → List (Seen R)
-to_come μ w = frames_after μ w.measure.now w.readings.now (here w)
+-- the frames that are still to be handed out
+abbrev pub to_come : {S R T : Type 0} → Meaning S R T → Frames S R T → List (Seen R)
+to_come μ frames = frames_after μ frames.measure.now frames.walk.readings.now (here frames.walk)
 
--- a call of `next` takes one walk to another
-pub record Advances {S R T : Type 0} (μ : Meaning S R T) (walk : Walk S R T) (answer : Option (Frame R)) (left : Walk S R T) : Type 0 where
+-- a call of `next` takes the walk of these frames to another
+pub record Advances {S R T : Type 0} (μ : Meaning S R T) (frames : Frames S R T) (answer : Option (Frame R)) (left : Frames S R T) : Type 0 where
   -- it hands out the first of the frames to come and leaves the others, or says end where none is left
-  pub yields : YieldsFirstBy as_seen (to_come μ) walk answer left
-  pub value : seen answer ≡ frame_taken μ walk.measure.now walk.readings.now (here walk)
-  pub after : here left ≡ position_after μ walk.measure.now walk.readings.now (here walk)
-  pub same : left.readings ≡ walk.readings
-  pub measure : left.measure ≡ walk.measure
-  pub law : Takes μ walk.measure.now walk.readings.now (here walk) (here left) (seen answer)
-  pub run : Runs μ walk.measure.now walk.readings.now (all_frames μ walk.measure.now walk.readings.now)
+  pub yields : YieldsFirstBy as_seen (to_come μ) frames answer left
+  pub value : seen answer ≡ frame_taken μ frames.measure.now frames.walk.readings.now (here frames.walk)
+  pub after : here left.walk ≡ position_after μ frames.measure.now frames.walk.readings.now (here frames.walk)
+  pub same : left.walk.readings ≡ frames.walk.readings
+  pub measure : left.measure ≡ frames.measure
+  pub law : Takes μ frames.measure.now frames.walk.readings.now (here frames.walk) (here left.walk) (seen answer)
+  pub run : Runs μ frames.measure.now frames.walk.readings.now (all_frames μ frames.measure.now frames.walk.readings.now)

@@ -19,7 +19,7 @@ pub record Seen (R : Type 0) : Type 0 where
   pub readings : List R
 
 -- a walk is locked once it counts misses
-abbrev pub here : {S R T : Type 0} → Walk S R T → Position
+abbrev pub here : {R : Type 0} → Walk R → Position
 here w = record { place = w.place; locked = is_some w.misses; misses = unwrap_or w.misses 0 }
 
 abbrev pub as_seen : {R : Type 0} → Frame R → Seen R

@@ -5,8 +5,8 @@ ghost use Rattle.std.specs.Prelude.{◌≡◌, ◌+◌, ◌<◌, ◌≤◌, true
 ghost use Rattle.std.specs.Iterator.{item_count, UpTo};
 ghost use Rattle.std.specs.Iterator.SizeHint.{IsWithinCount};
 ghost use Rattle.walk.specs.Sync.{sync_dibit, synced, frame_places, first_sync};
-ghost use Rattle.walk.specs.Walks.{here, seen, start, past, shown, taken};
-ghost use Rattle.walk.specs.Frames.{all_frames, frames_left, to_come, Runs, Advances};
+ghost use Rattle.walk.specs.Walks.{here, seen, start, past, shown, taken, frame_taken, position_after};
+ghost use Rattle.walk.specs.Frames.{all_frames, frames_left, to_come, Takes, Runs, Advances};
 
 use bits::{Dibit, bit};
 use layout::{FRAME_PLACES, SYNC_WORD};
@@ -31,12 +31,18 @@ pub struct Frame<'a, R> {
 
 /// A walk over a recording that hands out its frames one by one.
 #[derive(Drop)]
-pub struct Walk<'m, 'a, M: Measure> {
-    measure: &'m M,
-    readings: &'a [M::Reading],
+pub struct Walk<'a, R> {
+    readings: &'a [R],
     place: usize,
     /// How many sync words in succession a locked walk has missed. A walk that is not locked has none.
     misses: Option<u8>,
+}
+
+/// The frames that a walk hands out when it asks one measure at each step.
+#[derive(Drop)]
+pub struct Frames<'m, 'a, M: Measure> {
+    measure: &'m M,
+    walk: Walk<'a, M::Reading>,
 }
 
 /// Dibit `k` of the sync word.
@@ -47,17 +53,13 @@ fn sync_dibit(k: usize) -> Dibit
     Dibit::new(bit(&SYNC_WORD, 2 * k), bit(&SYNC_WORD, 2 * k + 1))
 }
 
-impl<'m, 'a, M: Measure> Walk<'m, 'a, M> {
+impl<'a, R> Walk<'a, R> {
     /// A walk from the start of a recording.
-    pub fn new(measure: &'m M, readings: &'a [M::Reading]) -> Walk<'m, 'a, M>
+    pub fn new(readings: &'a [R]) -> Walk<'a, R>
         ensures position { here result ≡ start }
         ensures same { result.readings ≡ readings.entry }
-        ensures measure { result.measure ≡ measure.entry }
-        ensures frames { to_come M.means result ≡ all_frames M.means measure.now readings.now }
-        ensures run { Runs M.means measure.now readings.now (all_frames M.means measure.now readings.now) }
     {
         Walk {
-            measure,
             readings,
             place: 0,
             misses: None,
@@ -65,15 +67,15 @@ impl<'m, 'a, M: Measure> Walk<'m, 'a, M> {
     }
 
     /// Whether a sync word starts at a place.
-    fn starts_sync(&self, place: usize) -> bool
+    fn starts_sync<M: Measure<Reading = R>>(&self, m: &M, place: usize) -> bool
         requires { place + 20 ≤ length self.now.readings.now }
-        ensures { result ≡ synced M.means self.now.measure.now self.now.readings.now place }
+        ensures { result ≡ synced M.means m.now self.now.readings.now place }
     {
         let word = &self.readings[place..place + SYNC_PLACES];
         word.iter().enumerate().all(
             |(k, reading)|
                 requires { k < 20 }
-            { self.measure.plain(reading) == sync_dibit(k) },
+            { m.plain(reading) == sync_dibit(k) },
         )
     }
 
@@ -85,34 +87,33 @@ impl<'m, 'a, M: Measure> Walk<'m, 'a, M> {
     }
 
     /// The first place, from that of the walk on, where a sync word starts and a frame's readings remain.
-    fn hunt(&self) -> Option<usize>
-        ensures value { result ≡ first_sync M.means self.now.measure.now self.now.readings.now self.now.place }
+    fn hunt<M: Measure<Reading = R>>(&self, m: &M) -> Option<usize>
+        ensures value { result ≡ first_sync M.means m.now self.now.readings.now self.now.place }
         ensures whole { IfSome result (λ place. place + 480 ≤ length self.now.readings.now) }
     {
-        (self.place..self.frame_places()).find(|place| self.starts_sync(*place))
+        (self.place..self.frame_places()).find(|place| self.starts_sync(m, *place))
     }
 
     /// The place of the frame that comes next, and whether its sync word is missed.
-    fn next_place(&self) -> Option<(usize, bool)>
-        ensures value { result ≡ taken M.means self.now.measure.now self.now.readings.now (here self.now) }
+    fn next_place<M: Measure<Reading = R>>(&self, m: &M) -> Option<(usize, bool)>
+        ensures value { result ≡ taken M.means m.now self.now.readings.now (here self.now) }
         ensures whole { IfSome result (λ t. (t.0 + 480 ≤ length self.now.readings.now) × (t.1 ≡ true → (here self.now).misses < 3)) }
     {
         match self.misses {
             Some(_) if self.place >= self.frame_places() => None,
-            Some(_) if self.starts_sync(self.place) => Some((self.place, false)),
+            Some(_) if self.starts_sync(m, self.place) => Some((self.place, false)),
             Some(misses) if misses < MISSES_BORNE => Some((self.place, true)),
-            _ => self.hunt().map(|place| (place, false)),
+            _ => self.hunt(m).map(|place| (place, false)),
         }
     }
 
     /// The frame at a place, past which the walk then stands.
-    fn hand_out(&mut self, place: usize, missed: bool) -> Frame<'a, M::Reading>
+    fn hand_out(&mut self, place: usize, missed: bool) -> Frame<'a, R>
         requires whole { place + 480 ≤ length self.old.readings.now }
         requires few { missed ≡ true → (here self.old).misses < 3 }
         ensures value { seen (Some result) ≡ shown self.old.readings.now (Some (place, missed)) }
         ensures after { here self.new ≡ past (here self.old) (Some (place, missed)) }
         ensures same { self.new.readings ≡ self.old.readings }
-        ensures measure { self.new.measure ≡ self.old.measure }
     {
         let misses = self.misses.unwrap_or(0);
         self.misses = Some(if missed { misses + 1 } else { 0 });
@@ -123,9 +124,37 @@ impl<'m, 'a, M: Measure> Walk<'m, 'a, M> {
             readings: &self.readings[place..place + FRAME_PLACES],
         }
     }
+
+    /// The next frame, or none at the end of the recording.
+    pub fn next<M: Measure<Reading = R>>(&mut self, m: &M) -> Option<Frame<'a, R>>
+        ensures value { seen result ≡ frame_taken M.means m.now self.old.readings.now (here self.old) }
+        ensures after { here self.new ≡ position_after M.means m.now self.old.readings.now (here self.old) }
+        ensures same { self.new.readings ≡ self.old.readings }
+        ensures law { Takes M.means m.now self.old.readings.now (here self.old) (here self.new) (seen result) }
+        ensures run { Runs M.means m.now self.old.readings.now (all_frames M.means m.now self.old.readings.now) }
+    {
+        let (place, missed) = self.next_place(m)?;
+        Some(self.hand_out(place, missed))
+    }
 }
 
-impl<'m, 'a, M: Measure> Iterator for Walk<'m, 'a, M> {
+impl<'m, 'a, M: Measure> Frames<'m, 'a, M> {
+    /// The frames of a recording, from its start.
+    pub fn new(measure: &'m M, readings: &'a [M::Reading]) -> Frames<'m, 'a, M>
+        ensures position { here result.walk ≡ start }
+        ensures same { result.walk.readings ≡ readings.entry }
+        ensures measure { result.measure ≡ measure.entry }
+        ensures frames { to_come M.means result ≡ all_frames M.means measure.now readings.now }
+        ensures run { Runs M.means measure.now readings.now (all_frames M.means measure.now readings.now) }
+    {
+        Frames {
+            measure,
+            walk: Walk::new(readings),
+        }
+    }
+}
+
+impl<'m, 'a, M: Measure> Iterator for Frames<'m, 'a, M> {
     type Item = Frame<'a, M::Reading>;
 
     ghost next_gives = { Advances M.means };
@@ -134,17 +163,16 @@ impl<'m, 'a, M: Measure> Iterator for Walk<'m, 'a, M> {
 
     /// The next frame, or none at the end of the recording.
     fn next(&mut self) -> Option<Frame<'a, M::Reading>> {
-        let (place, missed) = self.next_place()?;
-        Some(self.hand_out(place, missed))
+        self.walk.next(self.measure)
     }
 
     /// No more frames come than the rest of the recording has room for.
     fn size_hint(&self) -> (usize, Option<usize>)
-        ensures value { result ≡ (0, Some (frames_left (length self.now.readings.now) self.now.place)) }
+        ensures value { result ≡ (0, Some (frames_left (length self.now.walk.readings.now) self.now.walk.place)) }
         ensures lower { IsWithinCount result.0 (item_count (to_come M.means) self.now) }
         ensures upper { IfSome result.1 (UpTo (item_count (to_come M.means) self.now)) }
     {
-        let rest = self.readings.len().saturating_sub(self.place);
+        let rest = self.walk.readings.len().saturating_sub(self.walk.place);
         (0, Some(rest / FRAME_PLACES))
     }
 }

@@ -1,5 +1,5 @@
 //! Walks over small recordings, with the frames that they hand out worked out by hand.
-use crate::Walk;
+use crate::{Frames, Walk};
 use measure::marks::Marks;
 use std::alloc::Global;
 use std::process::Abort;
@@ -36,14 +36,19 @@ fn walk(
 ) -> Result<(), Fail> {
     let readings = recording(heap, lead, marks)?;
     assert!(rt; cut <= readings.len());
-    let mut walk = Walk::new(&Marks, &readings[0..readings.len() - cut]);
+    let readings = &readings[0..readings.len() - cut];
+    let mut walk = Walk::new(readings);
+    let mut all = Frames::new(&Marks, readings);
     for row in frames {
-        let frame = walk.next().ok_or("no more frames")?;
-        assert!(rt; frame.place == row.0 && frame.missed == row.1);
-        assert!(rt; frame.readings.len() == 480);
+        for next in [walk.next(&Marks), all.next()] {
+            let frame = next.ok_or("no more frames")?;
+            assert!(rt; frame.place == row.0 && frame.missed == row.1);
+            assert!(rt; frame.readings.len() == 480);
+        }
     }
-    assert!(rt; walk.next().is_none());
-    assert!(rt; walk.next().is_none());
+    for end in [walk.next(&Marks), all.next(), walk.next(&Marks), all.next()] {
+        assert!(rt; end.is_none());
+    }
     Ok(())
 }
 

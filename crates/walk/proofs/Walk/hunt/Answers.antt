@@ -8,7 +8,7 @@ use Rattle.walk.proofs.Walk.hunt.Goals as goal
 pub returns-clause-value : goal.returns-clause-value
 returns-clause-value g c =
     let walk = c.args.self.now in
-    let synced_at = synced g.M.Measure.means walk.measure.now walk.readings.now in
-    hunted g.M.Measure.means walk.measure.now walk.readings.now walk.place _ c.find.result c.frame_places.ensures
+    let synced_at = synced g.M.Measure.means c.args.m.now walk.readings.now in
+    hunted g.M.Measure.means c.args.m.now walk.readings.now walk.place _ c.find.result c.frame_places.ensures
     (first_from_Range _ _ _ _ (λ k. synced_at k ≡ true) (λ k. synced_at k ≡ false) c.find.ensures.ran
     (λ x q k. search (rules, tests)) (λ x q k. search (rules, tests)))

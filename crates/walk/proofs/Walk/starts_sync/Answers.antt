@@ -9,7 +9,7 @@ use Rattle.walk.proofs.Walk.starts_sync.Goals as goal
 pub returns : goal.returns
 returns g c =
     let μ = g.M.Measure.means in
-    let m = c.args.self.now.measure.now in
+    let m = c.args.m.now in
     let readings = c.args.self.now.readings.now in
     let word = take 20 (drop c.args.place readings) in
     let n : c.args.place + 20 - c.args.place ≡ 20 = omega arith in
