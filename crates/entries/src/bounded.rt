@@ -1,5 +1,5 @@
 //! A list of entries in lent slots.
-ghost use Rattle.std.specs.Prelude.{◌≡◌, ◌≤◌, [], ◌∷◌, ◌++◌, length};
+ghost use Rattle.std.specs.Prelude.{◌≡◌, ◌≤◌, [], ◌∷◌, ◌++◌, length, slice_set};
 ghost use Rattle.fault.specs.Faults.{refused_or, unless};
 
 use fault::Fault;
@@ -30,6 +30,7 @@ impl<'a, T: Copy> BoundedList<'a, T> {
     pub fn push(&mut self, entry: T) -> Result<(), Fault>
         ensures value { result ≡ refused_or (push_fault self.old) tt }
         ensures items { listed self.new ≡ unless (push_fault self.old) (listed self.old ++ entry ∷ []) (listed self.old) }
+        ensures slots { self.new.slots.now ≡ unless (push_fault self.old) (slice_set self.old.slots.now (length (listed self.old)) entry) self.old.slots.now }
         ensures kept { SameSlots self.old self.new }
     {
         if self.len == self.slots.len() {
