@@ -55,6 +55,16 @@ plus_twice (x ∷ xs) (y ∷ ys) h =
     let t = plus_twice xs ys h.1 in
     cc
 
+pub plus_comm : (xs ys : List ℕ) → length xs ≡ length ys → plus xs ys ≡ plus ys xs
+unfolding plus
+plus_comm [] [] h = refl
+plus_comm [] (y ∷ ys) h = absurd (omega arith)
+plus_comm (x ∷ xs) [] h = absurd (omega arith)
+plus_comm (x ∷ xs) (y ∷ ys) h =
+    let e : (x + y) % 2 ≡ (y + x) % 2 = omega arith in
+    let t = plus_comm xs ys (omega arith) in
+    cc
+
 pub plus_zeros : (xs : List ℕ) (n : ℕ) → Bits xs → plus xs (replicate n 0) ≡ xs
 unfolding plus
 plus_zeros [] n h = refl

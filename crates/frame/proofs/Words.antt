@@ -7,7 +7,7 @@ use Rattle.std.proofs.lemmas.List.FromFn.{fill_by_all}
 use Rattle.std.proofs.lemmas.List.{nil_from_length}
 use Rattle.bits.specs.Bits.{Bits, bits_of, number_of, byte_bits}
 use Rattle.bits.specs.Division.{remainder}
-use Rattle.bits.proofs.Numbers.{length-bits_of, bits-bits_of, bits_of_cat, bits_of_mod, bits_number, byte_bits-append, bits-byte_bits}
+use Rattle.bits.proofs.Numbers.{length-bits_of, bits-bits_of, bits_of_cat, bits_of_mod, bits_number, number_below, byte_bits-append, bits-byte_bits}
 use Rattle.bits.proofs.Divides.{length-remainder}
 use Rattle.codes.specs.Crc.{crc, crc_generator, check_bits}
 use Rattle.codes.proofs.Checks.{length-all_inverted, bits-all_inverted}
@@ -22,6 +22,14 @@ golay_size d = length-golay (bits_of 12 d) (bits-bits_of 12 d) ∙ ap (λ n. n +
 pub code-bits : (d : ℕ) → bits_of 24 (code_of d) ≡ golay (bits_of 12 d)
 unfolding code_of
 code-bits d = bits_number 24 (golay (bits_of 12 d)) (golay_size d) (bits-golay (bits_of 12 d) (bits-bits_of 12 d))
+
+-- a Golay word has 24 bits
+pub code_below : (d : ℕ) → code_of d < 2 ^ 24
+unfolding code_of
+code_below d =
+    let h = number_below (golay (bits_of 12 d)) (bits-golay (bits_of 12 d) (bits-bits_of 12 d)) in
+    let e : 2 ^ length (golay (bits_of 12 d)) ≡ 2 ^ 24 = ap (λ n. 2 ^ n) (golay_size d) in
+    omega arith
 
 -- 24 bits as three bytes
 pub three_bytes : (w : ℕ) → byte_bits (w / 65536 % 256 ∷ w / 256 % 256 ∷ w % 256 ∷ []) ≡ bits_of 24 w

@@ -98,7 +98,7 @@ distance-turned sent check d low p =
     ∙ ones_cat 12 (bit_xor d sent) (bit_xor own check) (xor_lt 12 own check small low)
     ∙ ap (λ x. ones (bit_xor d sent) + ones x) (sym left)
 
-near_some : (limit sent check d : ℕ) → limit ≤ 3 → sent < 4096 → check < 4096
+pub near_some : (limit sent check d : ℕ) → limit ≤ 3 → sent < 4096 → check < 4096
     → Explains (bit_xor (check_of sent) check) 12 limit (Some d)
     → Near limit (sent * 4096 + check) (counted (sent * 4096 + check) (Some (bit_xor sent d)))
 near_some limit sent check d few p q found =
@@ -110,7 +110,7 @@ near_some limit sent check d few p q found =
     omega (arith, distance-turned sent check mended q small, ap (turned_by (bit_xor (check_of sent) check)) back, found.1) in
     (small, refl, near, λ other r close. only_one limit word other mended few r small close near)
 
-near_none : (limit sent check : ℕ) → sent < 4096 → check < 4096 → Explains (bit_xor (check_of sent) check) 12 limit None → Near limit (sent * 4096 + check) None
+pub near_none : (limit sent check : ℕ) → sent < 4096 → check < 4096 → Explains (bit_xor (check_of sent) check) 12 limit None → Near limit (sent * 4096 + check) None
 near_none limit sent check p q none d r =
     omega (arith, distance-turned sent check d q r, none (bit_xor d sent) (xor_lt 12 d sent r p))
 
