@@ -43,7 +43,7 @@ fn marks_of(heap: Global, text: &str) -> anyhow::Result<Vec<u8>> {
 
 fn levels_of(heap: Global, text: &str) -> anyhow::Result<Vec<i16>> {
     text.split(',')
-        .map(|level| -> anyhow::Result<i16> { Ok(level.parse()?) })
+        .map(|level| level.parse::<i16>().map_err(anyhow::Error::from))
         .try_collect(heap)
 }
 
